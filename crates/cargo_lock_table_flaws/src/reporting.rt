@@ -26,8 +26,9 @@ pub fn reported_table_findings(
     ensures { IfOk result (λ reported. reported.items
         ≡ spec.reported_table_findings path.now report.now.findings) }
 {
-    let mut reported = Vec::with_capacity(alloc, report.findings.len())?;
-    for finding in &report.findings {
+    let findings = report.findings.as_slice();
+    let mut reported = Vec::with_capacity(alloc, findings.len())?;
+    for finding in findings {
         reported.push(reported_table_finding(alloc, path, finding)?)?;
     }
     Ok(reported)

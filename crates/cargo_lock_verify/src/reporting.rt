@@ -36,14 +36,35 @@ pub fn reported_archives(
         ≡ spec.reported_archives report.now.is_of_all report.now.counts path.now lines.now
         (map archive_finding_of report.now.findings.items)) }
 {
-    let missing = report.is_of_all || report.counts.matches == 0;
-    let mut reported = Vec::with_capacity(alloc, report.findings.len())?;
-    for finding in &report.findings {
-        let line = finding.line(lines);
-        let spot = Spot { path, line };
-        reported.push(reported_archive(alloc, finding, missing, spot)?)?;
+    let missing = missing_counts(report);
+    let findings = report.findings.as_slice();
+    let mut reported = Vec::with_capacity(alloc, findings.len())?;
+    for finding in findings {
+        reported.push(archive_at_line(alloc, path, finding, missing, lines)?)?;
     }
     Ok(reported)
+}
+
+// A finding of archives in the lockfile at a path, at the line of its package.
+fn archive_at_line(
+    alloc: Global,
+    path: &str,
+    finding: &Finding<'_, '_>,
+    missing: bool,
+    lines: &PackageLines<'_>,
+) -> Result<Reported, AllocError>
+    ensures { IfOk result (λ reported. reported
+        ≡ reported_archive missing path.now lines.now (archive_finding_of finding.now)) }
+{
+    let line = finding.line(lines);
+    reported_archive(alloc, finding, missing, Spot { path, line })
+}
+
+// Whether a package without an archive counts: all packages are asked for, or no archive matches.
+fn missing_counts(report: &Report<'_, '_>) -> bool
+    ensures { result ≡ spec.missing_counts report.now.is_of_all report.now.counts }
+{
+    report.is_of_all || report.counts.matches == 0
 }
 
 // A finding of archives at a spot, where a package without an archive counts or does not.

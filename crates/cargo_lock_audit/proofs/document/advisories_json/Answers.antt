@@ -10,6 +10,6 @@ pub returns : goal.returns
 returns c =
     let lines = c.args.lines.now in
     let items = items-located (λ line (f : Finding). advisory_finding_json line (advisory_finding_of f))
-    (λ (f : Finding). advisory_finding_line_in lines (advisory_finding_of f)) c.in_ok-locate.findings.items c.args.report.now.findings.items
-    (c.in_ok-locate.ensures ∙ ap (map (λ (f : Finding). (f, advisory_finding_line_in lines (advisory_finding_of f)))) c.deref.ensures.value) in
+    (λ (f : Finding). advisory_finding_line_in lines (advisory_finding_of f)) c.in_ok-findings.findings.items c.args.report.now.findings.items
+    (c.in_ok-findings.ensures ∙ ap (map (λ (f : Finding). (f, advisory_finding_line_in lines (advisory_finding_of f)))) c.deref.ensures.value) in
     rw (map-map (lined_finding_json lines) advisory_finding_of c.args.report.now.findings.items, sym items, sym c.deref-2.ensures.value) c.advisories_document.ensures

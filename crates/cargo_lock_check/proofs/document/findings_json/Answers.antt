@@ -16,5 +16,5 @@ unfolding findings_json
 returns c =
     let lines = c.args.lines.now in
     let items = items-located (λ line (x : PlacedFinding). lockfile_finding_json line (lockfile_finding_of x.finding))
-    (λ (x : PlacedFinding). line_of_finding lines (placed_finding_of x)) c.in_ok-locate.located.items c.args.findings.now c.in_ok-locate.ensures in
+    (λ (x : PlacedFinding). line_of_finding lines (placed_finding_of x)) c.in_ok-located.located.items c.args.findings.now c.in_ok-located.ensures in
     rw (map-map (placed_finding_json lines) placed_finding_of c.args.findings.now, sym items, sym c.deref.ensures.value) c.list_document.ensures

@@ -5,4 +5,4 @@ use Rattle.cargo_lock_table_flaws.proofs.reporting.reported_table_findings.Given
 
 -- what is reported of the findings so far
 abbrev pub invariant-loop-finding : goal.invariant-loop-finding
-invariant-loop-finding l = l.reported.items ≡ reported_table_findings l.fn.path.now (map table_finding_of (take l.finding-index l.report.findings.items))
+invariant-loop-finding l = l.reported.items ≡ reported_table_findings l.path (map table_finding_of (take l.finding-index l.findings))

@@ -14,6 +14,6 @@ pub returns : goal.returns
 returns c =
     let lines = c.args.lines.now in
     let items = items-located (λ line (f : FolderFinding). folder_finding_json line (folder_finding_of f))
-    (λ (f : FolderFinding). folder_finding_line_in lines (folder_finding_of f)) c.in_ok-locate.findings.items c.args.report.now.findings.items
-    (c.in_ok-locate.ensures ∙ ap (map (λ (f : FolderFinding). (f, folder_finding_line_in lines (folder_finding_of f)))) c.deref.ensures.value) in
+    (λ (f : FolderFinding). folder_finding_line_in lines (folder_finding_of f)) c.in_ok-findings.findings.items c.args.report.now.findings.items
+    (c.in_ok-findings.ensures ∙ ap (map (λ (f : FolderFinding). (f, folder_finding_line_in lines (folder_finding_of f)))) c.deref.ensures.value) in
     rw (map-map (lined_folder_json lines) folder_finding_of c.args.report.now.findings.items, sym items, sym c.deref-2.ensures.value) c.compared_document.ensures

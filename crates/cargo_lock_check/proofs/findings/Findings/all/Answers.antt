@@ -5,5 +5,5 @@ use Rattle.cargo_lock_check.proofs.findings.Findings.all.Goals as goal
 
 pub returns : goal.returns
 returns c = c.loop-one.invariant
-    ∙ ap (λ xs. map (λ (x : PlacedFindingData). x.finding) (map placed_finding_of xs)) (take_all c.loop-one.one-index c.placed.items (omega arith))
+    ∙ ap (λ xs. map (λ (x : PlacedFindingData). x.finding) (map placed_finding_of xs)) (take_all c.loop-one.one-index c.in_ok-placed.placed.items (omega arith))
     ∙ ap (map (λ (x : PlacedFindingData). x.finding)) c.in_ok-placed.ensures
