@@ -72,10 +72,10 @@ all-more {X} P xs i x low is all one =
     (All-push P (take i xs) (get_or xs i x) all (subst P is one))
 
 -- where something is found, there is what it says
-pub found-at : {P : Type 0} {Q : ℕ → Type 0} (o : Option ℕ) → is_none o ≡ false
+pub found-at : (P : Type 0) (Q : ℕ → Type 0) (o : Option ℕ) → is_none o ≡ false
     → MatchOption o P Q → (k : ℕ) × Q k
-found-at None some h = absurd (false≢true (sym some))
-found-at (Some k) some h = (k, h)
+found-at P Q None some h = absurd (false≢true (sym some))
+found-at P Q (Some k) some h = (k, h)
 
 -- where each dependency of each package resolves, each link has its target
 pub links-resolved : (packages ps : List PackageData)

@@ -15,7 +15,7 @@ loop-dependency-preserved c =
     all-more (IsResolved c.args.groups.now.packages) c.args.dependencies.now
     c.loop-dependency.dependency-index c.dependency-item.result c.loop-dependency-test.true
     c.dependency-item.is c.loop-dependency.invariant
-    (found-at c.target.result (sym c.is_none.ensures ∙ c.if-is_none.false) c.target.ensures)
+    (found-at _ _ c.target.result (sym c.is_none.ensures ∙ c.if-is_none.false) c.target.ensures)
 
 pub returns : goal.returns
 returns c = λ yes.
