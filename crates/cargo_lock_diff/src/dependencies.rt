@@ -171,7 +171,6 @@ fn is_among(package: &Package, others: &Vec<&Dependency>) -> bool
 }
 
 // What a dependency and the package to which it leads have in common.
-#[derive(Clone, Copy)]
 struct Target<'a> {
     name: &'a Name,
     version: &'a Version,
