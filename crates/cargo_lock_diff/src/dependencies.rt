@@ -171,6 +171,7 @@ fn is_among(package: &Package, others: &Vec<&Dependency>) -> bool
 }
 
 // What a dependency and the package to which it leads have in common.
+#[derive(Drop)]
 struct Target<'a> {
     name: &'a Name,
     version: &'a Version,
