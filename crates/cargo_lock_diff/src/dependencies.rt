@@ -209,7 +209,7 @@ fn target_in<'a>(dependency: &'a Dependency) -> Target<'a>
 
 // The order of two targets by name, version and named source.
 fn cmp_targets(one: Target<'_>, other: Target<'_>) -> Ordering
-    ensures { result ≡ target_cmp one other }
+    ensures { result ≡ target_cmp one.entry other.entry }
 {
     one.name
         .cmp(other.name)
