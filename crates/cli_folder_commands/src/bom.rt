@@ -61,9 +61,9 @@ pub fn command<'a>(alloc: Global) -> Result<Command<'a>, AllocError> {
     let command = with_files(alloc)?;
     let command = with_texts(alloc, command)?;
     let command = with_marks(alloc, command)?;
-    command
-        .arg(bill_licenses::option(alloc))?
-        .arg(long_flag(alloc, "compact")?.help("Writes one line, without spaces"))
+    command.arg(bill_licenses::option(alloc))?.arg(long_flag(alloc, "compact")?.help(
+        "Writes one line, without spaces",
+    ))
 }
 
 /// The parser with the options for the lockfile and for the file that is written.
