@@ -1,5 +1,6 @@
 -- The bill of packages is that of their graph, whose packages have their references.
-use Rattle.std.proofs.Common.{◌≡◌, ◌∙◌, ◌∷◌, [], inl, inr, List, Contains, ap, ap₂, map, refl, subst, sym, take}
+use Rattle.std.proofs.Common.{◌≡◌, ◌∙◌, ◌∷◌, [], inl, inr, Err, List, Ok, Result, Contains, ap, ap₂, map, refl, subst, sym, take}
+use Rattle.std.specs.Result.{IfErr, IsErrAnd}
 use Rattle.std.proofs.lemmas.List.{take-map}
 use Rattle.std.specs.List.{AllZip}
 use Rattle.cargo_lock_parts.specs.Identity.{PackageData}
@@ -8,6 +9,7 @@ use Rattle.cargo_lock_parts.specs.Error.{IsParse}
 use Rattle.cargo_lock_graph.specs.Edges.{GraphData}
 use Rattle.cargo_lock_edges.specs.OwnGraph.{IsAlikeButForWords, IsOwnGraph}
 use Rattle.cargo_lock_edges.proofs.SettledGraph.{right-at}
+use Rattle.cargo_lock_bom.specs.Printed.{IsUnprinted}
 use Rattle.cargo_lock_bom.specs.References.{IsRepeatedFault, IsRepeatedReference, package_reference, repeated_text}
 
 -- packages that are alike but for how their dependencies are written have the same references
@@ -42,3 +44,9 @@ own-fault packages graph e own (inr (q, repeated, parse)) =
       },
       subst (IsParse e) (ap repeated_text alike) parse,
     )
+
+-- a reason that is passed on is the reason of the result
+pub unprinted : {T : Type 0} (packages : List PackageData) (r : Result T Error) (first : Error)
+    → IsErrAnd r (λ e. e ≡ first) → IsUnprinted packages first → IfErr r (IsUnprinted packages)
+unprinted packages (Ok x) first impossible why = absurd impossible
+unprinted packages (Err e) first same why = subst (IsUnprinted packages) (sym same) why

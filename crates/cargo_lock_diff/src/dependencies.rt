@@ -171,7 +171,7 @@ fn is_among(package: &Package, others: &Vec<&Dependency>) -> bool
 }
 
 // What a dependency and the package to which it leads have in common.
-#[derive(Clone, Copy)]
+#[derive(Drop)]
 struct Target<'a> {
     name: &'a Name,
     version: &'a Version,
@@ -209,7 +209,7 @@ fn target_in<'a>(dependency: &'a Dependency) -> Target<'a>
 
 // The order of two targets by name, version and named source.
 fn cmp_targets(one: Target<'_>, other: Target<'_>) -> Ordering
-    ensures { result ≡ target_cmp one other }
+    ensures { result ≡ target_cmp one.entry other.entry }
 {
     one.name
         .cmp(other.name)

@@ -14,6 +14,8 @@ use Rattle.cargo_lock_parts.specs.SourceReading.{source_of}
 use Rattle.cargo_lock_references.specs.Reference.{Reference, reference_of, mark_plain, version_of}
 use Rattle.cargo_lock_parts.specs.Optional.{◌>>=◌}
 use Rattle.cargo_lock_references.specs.Records.{EncodedPackage, Texts}
+use Rattle.toml_fields.specs.Fields.{members_in, number_in, optional_by, optional_list, read_all}
+use Rattle.toml_fields.specs.Fields.{required_list, required_text, text_in}
 use Rattle.cargo_lock_encoding.specs.Lockfiles.{EncodedData}
 
 -- ---- texts

@@ -66,15 +66,21 @@ const PATHS_HELP: &str = "Lockfiles in place of that of --file, - for standard i
 
 /// The parser of this command: its options and the paths of lockfiles.
 pub(crate) fn command<'a>(alloc: Global) -> Result<Command<'a>, AllocError> {
+    let command = with_lockfile(alloc)?;
+    command
+        .arg(words::format(alloc)?)?
+        .arg(words::name(alloc)?)?
+        .arg(paths(alloc)?)
+}
+
+/// The parser with the options for one lockfile, and for a document.
+fn with_lockfile<'a>(alloc: Global) -> Result<Command<'a>, AllocError> {
     Command::new(alloc, "check")
         .about("Prints what is wrong with a lockfile")
         .after_help(FINDINGS_HELP)
         .arg(words::file(alloc))?
         .arg(words::any_size(alloc)?)?
-        .arg(words::json(alloc)?)?
-        .arg(words::format(alloc)?)?
-        .arg(words::name(alloc)?)?
-        .arg(paths(alloc)?)
+        .arg(words::json(alloc)?)
 }
 
 /// The argument for lockfiles.

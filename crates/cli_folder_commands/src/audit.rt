@@ -15,6 +15,7 @@ ghost use Rattle.cli_input.specs.Told.{subject_of};
 use crate::folders::folder;
 use crate::settings::settings_of;
 use crate::texts;
+use crate::texts::with_forms;
 use crate::verify::status_of;
 use cargo_lock::Lockfile;
 use cargo_lock::package::Package;
@@ -24,7 +25,7 @@ use cli_folders::{AdvisoryFiles, advisory_files, database_fault};
 use cli_input::findings::print_findings;
 use cli_input::load::{file, lockfile_with_text, named_lockfile};
 use cli_input::subject::{Subject, report_path};
-use cli_support::words::{any_size, format, is_standard, json, name};
+use cli_support::words::{any_size, is_standard};
 use cli_support::{Fault, words};
 use std::alloc::{AllocError, Global};
 use std::env::Env;
@@ -76,19 +77,27 @@ const KINDS: [&str; 4] = ["unmaintained", "unsound", "notice", "warnings"];
 
 /// The parser of this command: its options.
 pub fn command<'a>(alloc: Global) -> Result<Command<'a>, AllocError> {
+    let command = with_inputs(alloc)?;
+    let command = with_settings(alloc, command)?;
+    with_forms(alloc, command.arg(since_option(alloc))?)
+}
+
+/// The parser with the options for the lockfile and for the advisories.
+fn with_inputs<'a>(alloc: Global) -> Result<Command<'a>, AllocError> {
     Command::new(alloc, "audit")
         .about("Prints the advisories that concern packages of a lockfile")
         .after_help(AUDIT_HELP)
         .arg(words::file(alloc))?
         .arg(any_size(alloc)?)?
-        .arg(database_option(alloc))?
+        .arg(database_option(alloc))
+}
+
+/// The same with the options for settings.
+fn with_settings<'a>(alloc: Global, command: Command<'a>) -> Result<Command<'a>, AllocError> {
+    command
         .arg(texts::option(alloc, "ignore", "ID").help(IGNORE_HELP))?
         .arg(kinds_option(alloc))?
-        .arg(texts::option(alloc, "registry", "URL").help(REGISTRY_HELP))?
-        .arg(since_option(alloc))?
-        .arg(json(alloc)?)?
-        .arg(format(alloc)?)?
-        .arg(name(alloc)?)
+        .arg(texts::option(alloc, "registry", "URL").help(REGISTRY_HELP))
 }
 
 /// The option for the folder of the advisories.

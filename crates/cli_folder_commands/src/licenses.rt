@@ -11,6 +11,7 @@ ghost use Rattle.cli_input.specs.Told.{subject_of};
 use crate::folders::manifests;
 use crate::policy::policy_of;
 use crate::texts;
+use crate::texts::with_forms;
 use crate::verify::status_of;
 use cargo_lock::package::Package;
 use cargo_lock_licenses::{Policy, Report};
@@ -19,7 +20,7 @@ use cli_folders::Manifests;
 use cli_input::findings::print_findings;
 use cli_input::load::{file, lockfile_with_text};
 use cli_input::subject::{Subject, report_path};
-use cli_support::words::{any_size, format, json, name};
+use cli_support::words::any_size;
 use cli_support::{Fault, words};
 use std::alloc::{AllocError, Global};
 use std::env::Env;
@@ -65,18 +66,27 @@ const EXEMPT_HELP: &str = "Allows this term for this package alone";
 
 /// The parser of this command: its options.
 pub fn command<'a>(alloc: Global) -> Result<Command<'a>, AllocError> {
+    let command = with_inputs(alloc)?;
+    let command = with_policy(alloc, command)?;
+    with_forms(alloc, command)
+}
+
+/// The parser with the options for the lockfile and for the manifests.
+fn with_inputs<'a>(alloc: Global) -> Result<Command<'a>, AllocError> {
     Command::new(alloc, "licenses")
         .about("Prints the licences of packages, and which are not allowed")
         .after_help(LICENSES_HELP)
         .arg(words::file(alloc))?
         .arg(any_size(alloc)?)?
-        .arg(manifests(alloc, MANIFESTS_HELP).required(true))?
+        .arg(manifests(alloc, MANIFESTS_HELP).required(true))
+}
+
+/// The same with the options for the policy.
+fn with_policy<'a>(alloc: Global, command: Command<'a>) -> Result<Command<'a>, AllocError> {
+    command
         .arg(texts::option(alloc, "allow", "TERM").help(ALLOW_HELP))?
         .arg(texts::option(alloc, "license", "NAME@VERSION=EXPRESSION").help(LICENSE_HELP))?
-        .arg(texts::option(alloc, "exempt", "NAME[@VERSION]=TERM").help(EXEMPT_HELP))?
-        .arg(json(alloc)?)?
-        .arg(format(alloc)?)?
-        .arg(name(alloc)?)
+        .arg(texts::option(alloc, "exempt", "NAME[@VERSION]=TERM").help(EXEMPT_HELP))
 }
 
 /// Prints what is found of the licences of the packages of the lockfile, a line for each, or, if

@@ -12,6 +12,7 @@ ghost use Rattle.cli_input.specs.Told.{subject_of};
 
 use crate::folders::{cache, check_folder, vendor};
 use crate::texts;
+use crate::texts::with_forms;
 use cargo_lock::package::Package;
 use cargo_lock_verify::{Cache, Entry, Others, Report, VendorReport, Vendored};
 use clap::{Arg, ArgMatches, Command};
@@ -19,7 +20,7 @@ use cli_folders::{Entries, Vendor};
 use cli_input::findings::print_findings;
 use cli_input::load::{compared_with_text, file};
 use cli_input::subject::{Subject, report_path};
-use cli_support::words::{any_size, format, json, long_flag, name};
+use cli_support::words::{any_size, long_flag};
 use cli_support::{Fault, words};
 use std::alloc::{AllocError, Global};
 use std::env::Env;
@@ -73,19 +74,28 @@ const OTHERS_HELP: &str = "Passes over folders of packages that the lockfile doe
 
 /// The parser of this command: its options.
 pub fn command<'a>(alloc: Global) -> Result<Command<'a>, AllocError> {
+    let command = with_inputs(alloc)?;
+    let command = with_judgement(alloc, command)?;
+    with_forms(alloc, command)
+}
+
+/// The parser with the options for the lockfile and for the folders.
+fn with_inputs<'a>(alloc: Global) -> Result<Command<'a>, AllocError> {
     Command::new(alloc, "verify")
         .about("Compares archives, or vendored folders, with the checksums of a lockfile")
         .after_help(VERIFY_HELP)
         .arg(words::file(alloc))?
         .arg(any_size(alloc)?)?
         .arg(cache(alloc, CACHE_HELP))?
-        .arg(vendor(alloc)?)?
+        .arg(vendor(alloc)?)
+}
+
+/// The same with the options for what counts.
+fn with_judgement<'a>(alloc: Global, command: Command<'a>) -> Result<Command<'a>, AllocError> {
+    command
         .arg(all(alloc)?)?
         .arg(mirror(alloc)?)?
-        .arg(others(alloc)?)?
-        .arg(json(alloc)?)?
-        .arg(format(alloc)?)?
-        .arg(name(alloc)?)
+        .arg(others(alloc)?)
 }
 
 /// The option for the hosts of mirrors.

@@ -10,14 +10,14 @@ use Rattle.cli_input.specs.Limit.{IsBeyondLimit, IsReadInLimit, limit}
 -- any lockfile that the text means is allowed where the arguments lift the limit
 pub lifted : (found : Found) (flag : Bool) (text : List ℕ) (l : LockfileData) → flag ≡ true → (one_text found (codes "any-size") ≡ None → flag ≡ false)
     → (one_text found (codes "any-size") ≡ Some (codes "false") → flag ≡ false) → TextMeans text l → IsReadInLimit found text l
-lifted found flag text l yes none other means = record {
+lifted found flag text l is_set none other means = record {
   means = means;
-  allowed = λ unasked beyond. elim unasked [ inl absent ↦ true≢false (sym yes ∙ none absent) | inr is ↦ true≢false (sym yes ∙ other is) ];
+  allowed = λ unasked beyond. elim unasked [ inl absent ↦ true≢false (sym is_set ∙ none absent) | inr is ↦ true≢false (sym is_set ∙ other is) ];
 }
 
 -- what is read within the limit, where they do not
 pub unlifted : (found : Found) (flag : Bool) (text : List ℕ) → flag ≡ false → (one_text found (codes "any-size") ≡ Some (codes "true") → flag ≡ true)
     → (o : Option LockfileData) → MatchOption o (AreBeyond limit (TextMeans text)) (HoldsWithin limit (TextMeans text))
     → MatchOption o (IsBeyondLimit found text) (IsReadInLimit found text)
-unlifted found flag text no value None beyond = record { unlifted = λ asked. true≢false (sym (value asked) ∙ no); beyond = beyond }
-unlifted found flag text no value (Some l) within = record { means = within.holds; allowed = λ unasked. within.within }
+unlifted found flag text is_unset value None beyond = record { unlifted = λ asked. true≢false (sym (value asked) ∙ is_unset); beyond = beyond }
+unlifted found flag text is_unset value (Some l) within = record { means = within.holds; allowed = λ unasked. within.within }

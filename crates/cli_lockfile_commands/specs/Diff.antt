@@ -85,12 +85,15 @@ PrintsChanges found s d old new failure success = (told : List ChangeData)
     × IsStatus found d told failure success
 
 -- two lockfiles, of which the new one has this text, as they are compared
-abbrev pub sides_in : Found → LockfileData → List ℕ → LockfileData → SidesData
-sides_in found before text after = record {
-  before = named_file_of found (codes "old") before;
+abbrev pub sides_after : Found → FileData → List ℕ → LockfileData → SidesData
+sides_after found before text after = record {
+  before = before;
   after = named_file_of found (codes "new") after;
   lines = lines_in_text text after.packages;
 }
+
+abbrev pub sides_in : Found → LockfileData → List ℕ → LockfileData → SidesData
+sides_in found before = sides_after found (named_file_of found (codes "old") before)
 
 -- the same for the difference of the packages of two lockfiles, where these sources are accepted
 abbrev pub PrintsDifferenceOf : Found → List Accepted → LockfileData → List ℕ → LockfileData
@@ -98,6 +101,13 @@ abbrev pub PrintsDifferenceOf : Found → List Accepted → LockfileData → Lis
 PrintsDifferenceOf found accepted before text after old new failure success = (d : DifferenceData)
     × IsDifferenceBut accepted before.packages after.packages d
     × PrintsChanges found (sides_in found before text after) d old new failure success
+
+-- the same for some new lockfile
+abbrev pub PrintsDifferenceFrom : Found → List Accepted → LockfileData → Option (List ℕ)
+    → Option (List ℕ) → Type 0 → Type 0 → Type 0
+PrintsDifferenceFrom found accepted before old new failure success = (after : LockfileData)
+    × (text : List ℕ) × MeansWithCargoChecksums text after
+    × PrintsDifferenceOf found accepted before text after old new failure success
 
 -- the same for two such lockfiles, and the sources that the words of `--moved-ok` name
 abbrev pub PrintsDifference : Found → Option (List ℕ) → Option (List ℕ) → Type 0 → Type 0 → Type 0

@@ -4,10 +4,13 @@ ghost use Rattle.std.specs.Fmt.{DisplaysOnOk};
 ghost use Rattle.std.specs.List.{AllZip};
 ghost use Rattle.clap.specs.Matches.{found_of};
 ghost use Rattle.cargo_lock_diff.specs.Change.{change_of, changes_by};
+ghost use Rattle.cargo_lock_encoding.specs.Lockfiles.{LockfileData};
+ghost use Rattle.cli_input.specs.Load.{IsMeantWithCargoChecksums};
 ghost use Rattle.cli_lockfile_commands.specs.Diff.{AreCommitsAsked, IsAcceptedBy, IsStatus};
 ghost use Rattle.cli_lockfile_commands.specs.Diff.{IsTold, PrintsChanges};
-ghost use Rattle.cli_lockfile_commands.specs.Diff.{PrintsDifference, PrintsDifferenceOf};
-ghost use Rattle.cli_lockfile_commands.specs.Diff.{given_words, last_line, sides_of};
+ghost use Rattle.cli_lockfile_commands.specs.Diff.{PrintsDifference, PrintsDifferenceFrom};
+ghost use Rattle.cli_lockfile_commands.specs.Diff.{PrintsDifferenceOf};
+ghost use Rattle.cli_lockfile_commands.specs.Diff.{given_words, last_line, sides_after, sides_of};
 
 use cargo_lock::{Error, Lockfile, Package};
 use cargo_lock_diff::{Accepted, Change, Commits, Difference, Line, Summary, difference_json};
@@ -65,19 +68,31 @@ const MOVED_OK: &str = "--moved-ok takes a URL, as `https://github.com/rust-lang
 
 /// The parser of this command: its options and the paths of two lockfiles.
 pub fn command<'a>(alloc: Global) -> Result<Command<'a>, AllocError> {
+    let command = with_lockfiles(alloc)?;
+    let command = with_flags(alloc, command)?;
+    command
+        .arg(moved_ok(alloc).help(MOVED_OK_HELP))?
+        .arg(json(alloc)?)
+}
+
+/// The parser with the paths of the lockfiles, and how they are read.
+fn with_lockfiles<'a>(alloc: Global) -> Result<Command<'a>, AllocError> {
     Command::new(alloc, "diff")
         .about("Shows what differs between the packages of two lockfiles")
         .after_help(DIFF_HELP)
         .arg(lockfile_path(alloc, "old", "OLD").help(OLD_HELP))?
         .arg(lockfile_path(alloc, "new", "NEW").help(NEW_HELP))?
-        .arg(any_size(alloc)?)?
+        .arg(any_size(alloc)?)
+}
+
+/// The same with the flags for what is shown, and for the status.
+fn with_flags<'a>(alloc: Global, command: Command<'a>) -> Result<Command<'a>, AllocError> {
+    command
         .arg(flag(alloc, "dependencies", 'd')?.help("Shows other dependencies of packages too"))?
         .arg(long_flag(alloc, "exit-code")?.help(
             "Ends with status 1 where anything differs, dependencies only with -d",
         ))?
-        .arg(long_flag(alloc, "full")?.help("Prints all digits of commits that move"))?
-        .arg(moved_ok(alloc).help(MOVED_OK_HELP))?
-        .arg(json(alloc)?)
+        .arg(long_flag(alloc, "full")?.help("Prints all digits of commits that move"))
 }
 
 /// The option for a source to which packages may move, one each time that it is given.
@@ -106,9 +121,39 @@ pub fn run<R: Files + Input + AllocGlobal, W: Write>(
         return Err(Fault::OneInput);
     }
     let accepted = accepted(rt.alloc(), options)?;
+    compare(rt, options, &accepted, out)
+}
+
+/// The same where these sources are accepted.
+fn compare<R: Files + Input + AllocGlobal, W: Write>(
+    rt: &R,
+    options: &ArgMatches<'_>,
+    accepted: &[Accepted],
+    out: &mut W,
+) -> Result<ExitCode, Fault>
+    ensures { IfOk result (λ status. (before : LockfileData) × IsMeantWithCargoChecksums before
+        × PrintsDifferenceFrom (found_of options.now) accepted.now before
+        (W.contents out.old) (W.contents out.new)
+        (status ≡ ExitCode.FAILURE) (status ≡ ExitCode.SUCCESS)) }
+{
     let old = compared_lockfile(rt, options, "old")?;
+    compare_with(rt, options, accepted, &old, out)
+}
+
+/// The same for this old lockfile.
+fn compare_with<R: Files + Input + AllocGlobal, W: Write>(
+    rt: &R,
+    options: &ArgMatches<'_>,
+    accepted: &[Accepted],
+    old: &Lockfile,
+    out: &mut W,
+) -> Result<ExitCode, Fault>
+    ensures { IfOk result (λ status. PrintsDifferenceFrom (found_of options.now) accepted.now old.now
+        (W.contents out.old) (W.contents out.new)
+        (status ≡ ExitCode.FAILURE) (status ≡ ExitCode.SUCCESS)) }
+{
     let new = compared_with_text(rt, options, "new")?;
-    report(rt.alloc(), options, &accepted, &old, &new, out)
+    report(rt.alloc(), options, accepted, old, &new, out)
 }
 
 /// The sources that the arguments accept. Fails if one of their words names none.
@@ -176,15 +221,32 @@ fn report<W: Write>(
     let packages = lockfile.packages.as_slice();
     let difference = Difference::accepting(alloc, accepted, &old.packages, packages)?;
     let before = file(options, "old", old);
+    report_difference(alloc, options, &before, new, &difference, out)
+}
+
+/// Prints the changes of a difference of this old lockfile and this new one. Returns the status.
+fn report_difference<W: Write>(
+    alloc: Global,
+    options: &ArgMatches<'_>,
+    before: &File<'_>,
+    new: &WithText,
+    difference: &Difference<'_>,
+    out: &mut W,
+) -> Result<ExitCode, Fault>
+    ensures { IfOk result (λ status. PrintsChanges (found_of options.now)
+        (sides_after (found_of options.now) before.now (string_bytes new.now.text) new.now.lockfile)
+        difference.now (W.contents out.old) (W.contents out.new)
+        (status ≡ ExitCode.FAILURE) (status ≡ ExitCode.SUCCESS)) }
+{
+    let lockfile = &new.lockfile;
     let after = file(options, "new", lockfile);
-    let text = new.text.as_str();
     let sides = Sides {
-        before: &before,
+        before,
         after: &after,
-        text,
-        packages,
+        text: new.text.as_str(),
+        packages: lockfile.packages.as_slice(),
     };
-    report_changes(alloc, options, sides, &difference, out)
+    report_changes(alloc, options, sides, difference, out)
 }
 
 /// The lockfiles that are compared, the text of the new one, and its packages.

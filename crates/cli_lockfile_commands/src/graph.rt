@@ -8,7 +8,7 @@ ghost use Rattle.cli_lockfile_commands.specs.Graph.{DrawsPicture, target_in};
 ghost use Rattle.cli_lockfile_commands.specs.Tree.{given_specs};
 
 use cargo_lock::Package;
-use cargo_lock::dependency::graph::{Graph, NodeIndex};
+use cargo_lock::dependency::graph::{EdgeDirection, Graph, NodeIndex};
 use cargo_lock::dependency::tree::roots_of;
 use cargo_lock_diagram::{Diagram, Picture, Target, picture_from};
 use cargo_lock_query::reason::members;

@@ -14,8 +14,5 @@ returns g c =
     let old : c.deref.result.now ≡ c.args.old.now.packages = c.deref.ensures.value ∙ ap (λ (x : LockfileData). x.packages) c.old.view_is in
     let first = subst (λ (ps : List PackageData). IsDifferenceBut accepted ps c.as_slice-packages.result.now d) old c.in_ok-difference.ensures in
     let both = subst (λ (ps : List PackageData). IsDifferenceBut accepted c.args.old.now.packages ps d) new first in
-    if_ok_weaken c.report_changes.result _ _ (λ status printed. (
-      d,
-      both,
-      rw (sym c.file-before.ensures, sym c.file-after.ensures, sym c.as_str-text.ensures.value, sym new) printed,
-    )) c.report_changes.ensures
+    if_ok_weaken c.report_difference.result _ _ (λ status printed. (d, both, rw (sym c.file-before.ensures) printed))
+    c.report_difference.ensures

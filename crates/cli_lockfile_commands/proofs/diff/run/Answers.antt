@@ -1,16 +1,15 @@
-use Rattle.std.proofs.Common.{string_bytes}
 use Rattle.cli_support.proofs.Writes.{if_ok_weaken}
 use Rattle.cli_lockfile_commands.proofs.diff.run.Goals as goal
 
 pub returns : goal.returns
 returns g c =
-    if_ok_weaken c.report.result _ _ (λ status told. (
-      c.in_ok-old.old,
-      c.in_ok-new.new.lockfile,
-      string_bytes c.in_ok-new.new.text,
+    if_ok_weaken c.compare.result _ _ (λ status told. (
+      told.0,
+      told.1.1.0,
+      told.1.1.1.0,
       c.deref.result.now,
-      c.in_ok-old.ensures,
-      c.in_ok-new.ensures,
+      told.1.0,
+      told.1.1.1.1.0,
       rw c.deref.ensures.value c.in_ok-accepted.ensures,
-      told,
-    )) c.report.ensures
+      told.1.1.1.1.1,
+    )) c.compare.ensures
