@@ -1,5 +1,5 @@
 -- To which packages identities refer.
-use Rattle.std.proofs.Common.{◌≡◌, ◌<◌, ◌+◌, ◌∙◌, inl, inr, ℕ, false, List, MatchOption, Option, Some, None, get_or, length, slice_get, subst, sym, take}
+use Rattle.std.proofs.Common.{◌≡◌, ◌<◌, ◌+◌, inl, inr, ℕ, false, List, MatchOption, Option, Some, None, get_or, length, slice_get, subst, sym, take}
 use Rattle.std.specs.Prelude.{is_none}
 use Rattle.std.specs.List.{All, AllZip, Contains}
 use Rattle.std.proofs.lemmas.Bool.{false≢true}
@@ -7,7 +7,7 @@ use Rattle.std.proofs.lemmas.List.{take_more}
 use Rattle.std.proofs.lemmas.List.Elements.{All-contains, All-push}
 use Rattle.cargo_lock_parts.specs.Identity.{Identity, PackageData}
 use Rattle.cargo_lock_graph.specs.Targets.{HasTarget, IsLost, IsTarget, Link, links, links_of}
-use Rattle.cargo_lock_edges.proofs.LeadsOnce.{one-target}
+use Rattle.cargo_lock_graph.proofs.EdgesOnce.{target-one}
 use Rattle.cargo_lock_merge_core.specs.Linked.{AreReferredTo, AreStatedOnce, IsResolved, IsStatedAt, RefersTo}
 use Rattle.lists.proofs.Members.{got-in, in-joined, in-map, joined-in, map-in}
 use Rattle.lists.proofs.Pairs.{all-of}
@@ -17,7 +17,7 @@ pub refers-one : (packages : List PackageData) (i : Identity) (j k : ℕ) → Ar
 refers-one packages i j k once (inl a) (inl b) = once i j k a b
 refers-one packages i j k once (inl a) (inr b) = absurd (b.0 j a)
 refers-one packages i j k once (inr a) (inl b) = absurd (a.0 k b)
-refers-one packages i j k once (inr a) (inr b) = one-target packages i j k a.1 b.1
+refers-one packages i j k once (inr a) (inr b) = target-one packages i j k a.1 b.1
 
 pub refers-within : (packages : List PackageData) (i : Identity) (k : ℕ) → RefersTo packages i k → (q : PackageData) × (slice_get packages k ≡ Some q)
 refers-within packages i k (inl h) = (h.0, h.1)

@@ -1,5 +1,5 @@
 -- Two listings of the same packages at their places have the same merge and the same conflicts.
-use Rattle.std.proofs.Common.{◌≡◌, ◌∙◌, ◌⊎◌, ◌↔◌, inl, inr, ℕ, Bool, true, false, cond, List, [], ◌∷◌, Option, Some, None, ap, map, option_map, refl, slice_get, subst, sym}
+use Rattle.std.proofs.Common.{◌≡◌, ◌∙◌, ◌⊎◌, ◌↔◌, inl, inr, ℕ, Bool, true, false, cond, List, Option, Some, None, ap, option_map, refl, slice_get, subst, sym}
 use Rattle.std.specs.Prelude.{◌||◌, count_by, nat_lt}
 use Rattle.std.specs.List.{Contains}
 use Rattle.std.specs.declared.cmp.Ordering.TheVariants.{Less}
@@ -14,12 +14,12 @@ use Rattle.cargo_lock_merge_core.specs.Commits.{HasCommit, IsAtMergedCommit, IsA
 use Rattle.cargo_lock_merge_core.specs.Linked.{IsStatedAt}
 use Rattle.cargo_lock_merge_core.specs.Listings.{ListingsAreSymmetric, ListingsHaveOneConflict, ListingsHaveOneMerge, ListingsHaveOneMoved, MergeOfListsIsSymmetric, MergeOfListsIsUnique, exchanged_sides}
 use Rattle.cargo_lock_merge_core.specs.Merge.{ConflictData, HasReference, HaveAt, IsConflict, IsMerge, IsMergedPackage, IsMovedReference, IsReachedInMerge, IsRootOfMerge, LeadsToInMerge, OfChecksum, OfPackage, OfReplacement, OfSource, Triple, lockfiles_of}
-use Rattle.cargo_lock_merge_core.specs.Placed.{HasAt, HasMember, IsAt, PlacedData, contents_of, key, key_if}
+use Rattle.cargo_lock_merge_core.specs.Placed.{HasMember, IsAt, PlacedData, contents_of, key, key_if}
 use Rattle.cargo_lock_merge_core.specs.Places.{ArePlaced, IsMergeOf, IsPlaceIn, IsPlaced, IsReplacementIn, Place, has_several, is_member_named, merge_place, version_in}
 use Rattle.cargo_lock_merge_core.specs.Rule3.{IsAgreed, IsDisputed, IsInConflict, IsMergedValue}
 use Rattle.cargo_lock_merge_core.proofs.Alike.{merge-once}
 use Rattle.cargo_lock_merge_core.proofs.Kept.{kept-alike}
-use Rattle.cargo_lock_edges.proofs.LeadsOnce.{one-target}
+use Rattle.cargo_lock_graph.proofs.EdgesOnce.{target-one}
 use Rattle.lists.proofs.Members.{in-map, map-in}
 use Rattle.cargo_lock_merge_core.proofs.Relisted.{are-placed}
 use Rattle.cargo_lock_merge_core.proofs.Sides.{chain-flip, merge-flip}
@@ -441,7 +441,7 @@ module _ (all : Lockfiles) (packages : List PackageData) where
   one-place i p q (j, a, inl sa, here, is) (k, b, inr (none, target), there, is') = absurd (none j sa)
   one-place i p q (j, a, inr (none, target), here, is) (k, b, inl sb, there, is') = absurd (none k sb)
   one-place i p q (j, a, inr (none, target), here, is) (k, b, inr (none', target'), there, is') =
-      let same : j ≡ k = one-target packages i j k target target' in
+      let same : j ≡ k = target-one packages i j k target target' in
       let e : a ≡ b = same_Some a b (sym here ∙ ap (slice_get packages) same ∙ there) in
       is ∙ ap (merge_place all) e ∙ sym is'
 

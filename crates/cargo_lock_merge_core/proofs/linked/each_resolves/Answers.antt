@@ -1,4 +1,4 @@
-use Rattle.std.proofs.Common.{List, subst, sym, ◌∙◌}
+use Rattle.std.proofs.Common.{List, ap, not, subst, ◌∙◌}
 use Rattle.std.specs.List.{All}
 use Rattle.std.proofs.lemmas.Bool.{false≢true}
 use Rattle.std.proofs.lemmas.List.{take_all}
@@ -15,7 +15,7 @@ loop-dependency-preserved c =
     all-more (IsResolved c.args.groups.now.packages) c.args.dependencies.now
     c.loop-dependency.dependency-index c.dependency-item.result c.loop-dependency-test.true
     c.dependency-item.is c.loop-dependency.invariant
-    (found-at _ _ c.target.result (sym c.is_none.ensures ∙ c.if-is_none.false) c.target.ensures)
+    (found-at _ _ c.target.result (ap not (c.is_none.ensures ∙ ap not c.if-is_none.false)) c.target.ensures)
 
 pub returns : goal.returns
 returns c = λ yes.
