@@ -138,12 +138,20 @@ fn check_one<R: Files + Input + Env + AllocGlobal, W: Write>(
 {
     let path = report_path(rt, options, argument)?;
     let text = text_at(rt, options, argument)?;
-    let named = Named {
-        argument,
-        path: path.as_str(),
-        prefix: None,
-    };
+    let named = named_alone(argument, path.as_str());
     print_check(rt.alloc(), options, named, text.as_str(), out)
+}
+
+/// The names of a lockfile that is the only one, with nothing before its lines.
+fn named_alone<'a>(argument: &'a str, path: &'a str) -> Named<'a>
+    ensures { spec.named_of result
+        ≡ record { argument = argument.now; path = path.now; prefix = None } }
+{
+    Named {
+        argument,
+        path,
+        prefix: None,
+    }
 }
 
 /// Prints what is wrong with the text of a lockfile.
