@@ -137,13 +137,29 @@ fn put_file<R: Files + AllocGlobal>(
     name: &str,
     path: String,
 ) -> Result<(), Fault> {
-    if !is_advisory(name) || target_at(rt, &path)? != Some(Entry::File) {
-        return Err(fault_of(rt.alloc(), &path, "it is no file RUSTSEC-*.md"));
+    let text = advisory_text(rt, name, &path)?;
+    put_text(rt.alloc(), files, package, path, &text)
+}
+
+// The text of the file of this name at a path. Fails if it is not to be an advisory, or is no file.
+fn advisory_text<R: Files + AllocGlobal>(rt: &R, name: &str, path: &str) -> Result<String, Fault> {
+    if !is_advisory(name) || target_at(rt, path)? != Some(Entry::File) {
+        return Err(fault_of(rt.alloc(), path, "it is no file RUSTSEC-*.md"));
     }
-    let text = text_at(rt, &path)?;
-    match Advisory::parse(rt.alloc(), &text) {
-        Ok(advisory) => put_advisory(rt.alloc(), files, package, path, advisory),
-        Err(error) => Err(database_fault(rt.alloc(), &DatabaseFault::Unread(path, error))),
+    text_at(rt, path)
+}
+
+// Adds the advisory that a text at a path has. Fails if it has none.
+fn put_text(
+    alloc: Global,
+    files: &mut Vec<AdvisoryFile>,
+    package: &str,
+    path: String,
+    text: &str,
+) -> Result<(), Fault> {
+    match Advisory::parse(alloc, text) {
+        Ok(advisory) => put_advisory(alloc, files, package, path, advisory),
+        Err(error) => Err(database_fault(alloc, &DatabaseFault::Unread(path, error))),
     }
 }
 

@@ -160,13 +160,38 @@ impl Manifests {
         packages: &[Package],
     ) -> Result<(), Fault> {
         let wanted = by_folder(rt.alloc(), packages)?;
-        for name in &names_in(rt, folder)? {
+        let names = names_in(rt, folder)?;
+        self.put_wanted(rt, folder, host, &wanted, &names)
+    }
+
+    // Adds what has one of these names in such a folder, where the name is that of a wanted package.
+    fn put_wanted<R: Files + AllocGlobal>(
+        &mut self,
+        rt: &R,
+        folder: &str,
+        host: &Option<String>,
+        wanted: &BTreeMap<String, &Package>,
+        names: &[String],
+    ) -> Result<(), Fault> {
+        for name in names {
             if let Some(package) = wanted.get(name.as_str()) {
                 let path = path_of(rt.alloc(), folder, name)?;
-                let found = unpacked_one(rt, &path, package)?;
-                self.found.push(found.at(copied(rt.alloc(), host)?))?;
+                self.put_unpacked_one(rt, &path, host, package)?;
             }
         }
+        Ok(())
+    }
+
+    // Adds what is at the path that has the name of the folder of a package, in a folder of this host.
+    fn put_unpacked_one<R: Files + AllocGlobal>(
+        &mut self,
+        rt: &R,
+        path: &str,
+        host: &Option<String>,
+        package: &Package,
+    ) -> Result<(), Fault> {
+        let found = unpacked_one(rt, path, package)?;
+        self.found.push(found.at(copied(rt.alloc(), host)?))?;
         Ok(())
     }
 }

@@ -227,12 +227,23 @@ fn put_at<R: Files + AllocGlobal>(
     path: String,
 ) -> Result<(), Fault> {
     let at = path_of(rt.alloc(), &folder.path, &path)?;
-    match entry_at(rt, &at)? {
+    put_entry(rt, folder, waiting, path, &at)
+}
+
+/// The same, where this is the path of it as the program opens it.
+fn put_entry<R: Files + AllocGlobal>(
+    rt: &R,
+    folder: &mut Folder,
+    waiting: &mut Vec<String>,
+    path: String,
+    at: &str,
+) -> Result<(), Fault> {
+    match entry_at(rt, at)? {
         Some(files::Entry::Folder) => waiting.push(path)?,
         Some(files::Entry::Link) => folder.links.push(path)?,
         Some(files::Entry::File) if path.as_str() == LIST => {}
-        Some(files::Entry::File) => put_file(rt, folder, path, &at)?,
-        _ => return Err(fault_of(rt.alloc(), &at, "it is no file")),
+        Some(files::Entry::File) => put_file(rt, folder, path, at)?,
+        _ => return Err(fault_of(rt.alloc(), at, "it is no file")),
     }
     Ok(())
 }
