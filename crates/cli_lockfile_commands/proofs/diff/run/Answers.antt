@@ -3,13 +3,15 @@ use Rattle.cli_lockfile_commands.proofs.diff.run.Goals as goal
 
 pub returns : goal.returns
 returns g c =
-    if_ok_weaken c.compare.result _ _ (λ status told. (
-      told.0,
-      told.1.1.0,
-      told.1.1.1.0,
+    if_ok_weaken c.compare.result _ _ (λ status told.
+    let (before, is_before, from) = told in
+    let (after, text, means, printed) = from in (
+      before,
+      after,
+      text,
       c.deref.result.now,
-      told.1.0,
-      told.1.1.1.1.0,
+      is_before,
+      means,
       rw c.deref.ensures.value c.in_ok-accepted.ensures,
-      told.1.1.1.1.1,
+      printed,
     )) c.compare.ensures
