@@ -153,7 +153,8 @@ impl fmt::Display for AllOfTable<'_, '_> {
     fn fmt<W: fmt::Write>(&self, f: &mut fmt::Formatter<W>) -> fmt::Result {
         let AllOfTable { prefix, report } = *self;
         let prefix = Prefix(prefix);
-        for finding in &report.findings {
+        let findings = report.findings.as_slice();
+        for finding in findings {
             write!(f, "{prefix}{finding}\n")?;
         }
         Ok(())

@@ -10,6 +10,6 @@ returns-in-Ok-clause-ok c = rw c.in-Ok.is (on_ok_weaken c.append.result _ _
     (λ more form before read is kept. several-read form before read _ _ (λ was. more form (read_of before) (read ∷ []) was kept) refl is)
     c.append.ensures)
 
-pub returns-in-Err-clause-err : goal.returns-in-Err-clause-err
-returns-in-Err-clause-err c = rw c.in-Err.is (λ form before is.
-    several-unread form before _ _ refl (ap length c.in_ok-push.ensures.items ∙ length_push _ _) is)
+pub returns-in_ok-push-in-Err-clause-err : goal.returns-in_ok-push-in-Err-clause-err
+returns-in_ok-push-in-Err-clause-err c = rw c.in-Err.is (λ form before is.
+    several-unread form before _ _ refl (ap length c.in_ok-push-in-Err.ensures.items ∙ length_push _ _) is)
