@@ -16,7 +16,7 @@ returns g c =
     let settings = settings_of c.args.settings.now in
     let subject : SubjectData = subject_of c.args.subject in
     let audited : audited_of c.audited_since-audited.result ≡ record { packages = subject.packages; older = packages_before c.in_ok-older.older } =
-        rw (c.audited_since-audited.ensures.packages, c.audited_since-audited.ensures.older) refl in
+    rw (c.audited_since-audited.ensures.packages, c.audited_since-audited.ensures.older) refl in
     IfOk-weaker c.print_audited.result _ _ (λ status told. (
       c.in_ok-older.older,
       c.in_ok-older.ensures,
