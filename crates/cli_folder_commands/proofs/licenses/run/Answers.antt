@@ -20,7 +20,7 @@ returns g c =
     let l : LockfileData = c.in_ok-read.read.lockfile in
     let argument : List ℕ = given_path_in found (codes "file") in
     let subject : subject_of c.of-subject.result ≡ subject_of_lockfile argument path text l =
-    c.of-subject.ensures ∙ rw (c.file-file.ensures, c.deref.ensures.value) refl in
+    c.of-subject.ensures ∙ rw (c.file-file.ensures, c.deref.ensures) refl in
     IfOk-weaker c.print_licenses.result _ _ (λ status told. (
       text,
       path,
