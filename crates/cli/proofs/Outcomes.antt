@@ -1,5 +1,5 @@
 -- The outcomes of several arguments: what is read of them, and how much is counted.
-use Rattle.std.proofs.Common.{◌≡◌, ◌≢◌, ◌∙◌, ◌+◌, ◌-◌, ◌<◌, ◌≤◌, ◌++◌, ◌∷◌, [], ◌&&◌, ◌^◌, ℕ, Bool, true, false, List, None, Option, Some, Result, Ok, Err, ap, append-nil, arith, length, length-append, map, min, refl, sym}
+use Rattle.std.proofs.Common.{◌≡◌, ◌∙◌, ◌+◌, ◌-◌, ◌<◌, ◌≤◌, ◌++◌, ◌∷◌, [], ◌&&◌, ◌^◌, ℕ, Bool, true, false, List, None, Option, Some, Result, Ok, Err, ap, append-nil, arith, length, length-append, map, min, refl, sym}
 use Rattle.std.specs.Prelude.{IfErr, IfOk}
 use Rattle.std.specs.List.{AllZip, filter_map, list_all, sum_by}
 use Rattle.std.proofs.lemmas.Bool.{false≢true}
@@ -98,10 +98,10 @@ pub none-unread : (form : Form) (outcomes : List (Option CheckedData)) (several 
 none-unread form outcomes several is none other =
     let count = is.faults in let fewer = not-all-read outcomes other in omega (arith, count, none, fewer)
 
-pub some-unread : (form : Form) (outcomes : List (Option CheckedData)) (several : Several) → IsSeveralOf form outcomes several
-    → length several.faults.items ≢ 0 → are_all_read outcomes ≡ true → ⊥
-some-unread form outcomes several is some all =
-    let count = is.faults in let same = all-read outcomes all in some (omega (arith, count, same))
+pub none-kept : (form : Form) (outcomes : List (Option CheckedData)) (several : Several) → IsSeveralOf form outcomes several
+    → are_all_read outcomes ≡ true → length several.faults.items ≡ 0
+none-kept form outcomes several is all =
+    let count = is.faults in let same = all-read outcomes all in omega (arith, count, same)
 
 -- one more argument, of which something is found or no lockfile is read
 pub outcome-more : {E : Type 0} (found : Found) (form : Form) (argument : List ℕ) (arguments : List (List ℕ)) (outcome : Result Checked E) (old new : Several)

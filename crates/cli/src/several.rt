@@ -1,11 +1,11 @@
 //! The command `check` of several lockfiles.
-ghost use Rattle.std.specs.Prelude.{◌≡◌, ◌++◌, ◌∷◌, [], IfErr, IfOk, List, None, OnOk, Option, Some};
-ghost use Rattle.std.specs.Prelude.{map};
+ghost use Rattle.std.specs.Prelude.{◌≡◌, ◌≢◌, ◌++◌, ◌∷◌, [], IfErr, IfOk, List, None, OnOk, Option};
+ghost use Rattle.std.specs.Prelude.{Some, length, map, string_bytes};
 ghost use Rattle.std.specs.List.{AllZip};
 ghost use Rattle.std.specs.Process.{exit_status};
 ghost use Rattle.clap.specs.Matches.{found_of};
-ghost use Rattle.cli.specs.Check.{CheckedData, IsCheckedAs, IsOutcome, PrintsSeveral};
-ghost use Rattle.cli.specs.Check.{IsSeveralOf};
+ghost use Rattle.cli.specs.Check.{CheckedData, IsCheckedAs, IsFindingsStatus, IsOutcome};
+ghost use Rattle.cli.specs.Check.{IsSeveralOf, PrintsSeveral};
 ghost use Rattle.cli.specs.Ending.{IsEnd, counts_in, status_in};
 ghost use Rattle.cli_input.specs.declared.findings.Form as declared;
 
@@ -56,13 +56,11 @@ pub(crate) fn check_several<R: Files + Input + Env + AllocGlobal, W: Write>(
         return Err(Fault::OneInput);
     }
     let form = asked_form(options);
-    let Several { checked, faults } = several_at(rt, options, form, arguments)?;
+    let several = several_at(rt, options, form, arguments)?;
+    let checked = &several.checked;
     let counts = counts_line(rt.alloc(), checked.packages, checked.findings)?;
     print_told(rt.alloc(), form, &checked.told, out)?;
-    if faults.is_empty() {
-        return Ok(ended(checked.findings, counts));
-    }
-    Ok(Ended::NotAllRead(ExitCode::from(2), faults, counts))
+    Ok(several.ended(counts))
 }
 
 /// How many of these arguments are standard input.
@@ -95,6 +93,21 @@ fn several_at<R: Files + Input + Env + AllocGlobal>(
 }
 
 impl Several {
+    /// How `check` ends where this is found, with this line of counts.
+    fn ended(self, counts: String) -> Ended
+        ensures read { length self.faults.items ≡ 0 → IsFindingsStatus self.checked.findings
+            (status_in result ≡ ExitCode.FAILURE) (status_in result ≡ ExitCode.SUCCESS) }
+        ensures unread { length self.faults.items ≢ 0 → exit_status (status_in result) ≡ 2 }
+        ensures counts { counts_in result ≡ string_bytes counts }
+        ensures end { IsEnd result }
+    {
+        let Several { checked, faults } = self;
+        if faults.is_empty() {
+            return ended(checked.findings, counts);
+        }
+        Ended::NotAllRead(ExitCode::from(2), faults, counts)
+    }
+
     /// Adds what is found in one more lockfile, or the fault of it. Fails when out of memory, which is
     /// the fault of no lockfile.
     fn add(&mut self, outcome: Result<Checked, Fault>) -> Result<(), AllocError>
