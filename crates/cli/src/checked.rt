@@ -1,8 +1,11 @@
 //! What the command `check` finds in the text of a lockfile.
-ghost use Rattle.std.specs.Prelude.{◌∷◌, [], IfOk};
+ghost use Rattle.std.specs.Prelude.{◌≡◌, ◌∷◌, [], IfOk};
 ghost use Rattle.clap.specs.Matches.{found_of};
 ghost use Rattle.cli.specs.Check.{CheckedData, IsCheckedAs, IsCheckedLockfile, IsCheckedTable};
 ghost use Rattle.cli.specs.Check.{IsCheckedText, named_of};
+ghost use Rattle.cli.specs.Check as spec;
+ghost use Rattle.cli_input.specs.Told.{IsToldAs};
+ghost use Rattle.cli_input.specs.declared.findings.Form as declared;
 
 use crate::refused::checked_table;
 use cargo_lock::{Error, Lockfile};
@@ -44,6 +47,20 @@ pub(crate) struct Checked {
 
     /// How much was found.
     pub findings: usize,
+}
+
+impl Checked {
+    /// What is found in one lockfile.
+    pub(crate) fn of_one(told: Told, packages: usize, findings: usize) -> Checked
+        ensures { (form : declared.Form) (c : CheckedData) → IsToldAs form (c.found ∷ []) told
+            → packages ≡ c.packages → findings ≡ c.count → IsCheckedAs form (c ∷ []) result }
+    {
+        Checked {
+            told,
+            packages,
+            findings,
+        }
+    }
 }
 
 /// What is wrong with a text, in this form: with the lockfile that it is, or else what keeps its
@@ -101,6 +118,22 @@ fn checked_lockfile(
         × IsCheckedAs form (c ∷ []) checked) }
 {
     let findings = Findings::of(alloc, text, lockfile)?;
+    Ok(checked_findings(alloc, form, named, text, lockfile, &findings)?)
+}
+
+/// What is wrong with a lockfile, of which this is found.
+fn checked_findings(
+    alloc: Global,
+    form: Form,
+    named: Named<'_>,
+    text: &str,
+    lockfile: &Lockfile,
+    findings: &Findings<'_>,
+) -> Result<Checked, AllocError>
+    ensures { IfOk result (λ checked. IsCheckedAs form
+        (spec.checked_lockfile (named_of named.entry) text.now lockfile.now findings.now ∷ [])
+        checked) }
+{
     let placed = findings.placed(alloc)?;
     let file = file_at(named.argument, lockfile.version);
     let subject = Subject {

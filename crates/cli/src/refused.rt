@@ -128,11 +128,8 @@ fn checked_report(
         report,
     };
     let told = Told::of(alloc, form, subject, &all)?;
-    Ok(Checked {
-        told,
-        packages: report.packages,
-        findings: report.findings.len(),
-    })
+    let findings = report.findings.len();
+    Ok(Checked::of_one(told, report.packages, findings))
 }
 
 /// The findings of a table. `Display` writes them in their order, each with its newline, and behind a
