@@ -23,7 +23,7 @@ unresolved-text text l refusal means (inr lost) seven = (l, lost.1, means, lost.
 pub unresolved-refusal : (packages : List PackageData) (fault : Error) (refusal : Refusal) → refusal ≡ refusal_of fault → IsUnresolved packages (links packages) fault
     → (refusal ≡ NoMemory) ⊎ ((refusal ≡ Unresolved) × (d : Identity) × IsFirstLost packages (links packages) d)
 unresolved-refusal packages Memory refusal is h = inl is
-unresolved-refusal packages (Resolution message) refusal is h = inr (is, h.0, h.1.0)
+unresolved-refusal packages (Resolution message) refusal is h = inr (is, h.0, h.1)
 unresolved-refusal packages (Io kind) refusal is h = absurd h
 unresolved-refusal packages (Parse said) refusal is h = absurd h
 unresolved-refusal packages (Version fault) refusal is h = absurd h
