@@ -95,23 +95,26 @@ def print_growth(asked, found, bench):
             bench.row([f"V{form}, {bench.NAMES[names][0]}", *cells])
 
 
-def of_shape(asked, words, make, size):
-    """The instructions of a command over a lockfile of a shape."""
+def of_shape(asked, words, make, size, bench):
+    """The instructions and the megabytes of a command over a lockfile of a shape."""
     texts, specs = make(size)
     paths = [f"{asked.work}/shape-{number}.lock" for number in range(len(texts))]
     for path, text in zip(paths, texts):
         with open(path, "w", encoding="utf-8") as out:
             out.write(text)
-    return count([asked.program, *words, *paths, *specs])
+    call = [asked.program, *words, *paths, *specs]
+    run = bench.run_once(call, asked.limit)
+    return count(call), run and run.megabytes
 
 
 def print_shapes(asked, bench):
-    """Prints by how much the instructions grow if a shape has twice the size."""
-    print("\nShapes, in millions of instructions:\n")
-    bench.head(["Shape", "Command", "Packages", "Instructions", "Twice the size", "Growth"])
+    """Prints by how much the instructions and the memory grow if a shape has twice the size."""
+    print("\nShapes, in millions of instructions, and the growth of the most memory:\n")
+    bench.head(["Shape", "Command", "Packages", "Instructions", "Twice the size", "Growth", "Memory"])
     for name, (words, make, size) in shapes.SHAPES.items():
-        one, two = (of_shape(asked, words, make, it) for it in (size, 2 * size))
-        cells = [f"{one:,.0f}", f"{two:,.0f}", f"{two / one:.2f}"]
+        one, two = (of_shape(asked, words, make, it, bench) for it in (size, 2 * size))
+        cells = [f"{one[0]:,.0f}", f"{two[0]:,.0f}", f"{two[0] / one[0]:.2f}"]
+        cells.append(f"{two[1] / one[1]:.2f}" if one[1] and two[1] else "–")
         bench.row([name, f"`{' '.join(words)}`", f"{size:,}", *cells])
 
 

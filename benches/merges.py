@@ -132,6 +132,22 @@ def with_suffix(count):
     return of_sources(count, lambda it: f"git+https://git.example/{it // 2:06}{ends[it % 2]}")
 
 
+def of_revisions(count):
+    """One name and version from so many revisions of one repository, of which each side lacks one."""
+    texts = []
+    for lacking in (count, 0, 1):
+        commits = [f"{it:040x}" for it in range(count) if it != lacking]
+        sources = [f"git+https://git.example/all?rev={it}" for it in commits]
+        packages = [package("left", "1.0.0", f"{it}#{it[-40:]}") for it in sources]
+        texts.append(with_root([f"left 1.0.0 ({it})" for it in sources], packages))
+    return texts
+
+
+def of_tags(count):
+    """One name and version from so many tags of one commit, of which each side lacks one."""
+    return of_sources(count, lambda it: f"git+https://git.example/all?tag=v{it:06}")
+
+
 def of_repository(count):
     """So many packages of one git source, whose commit ours changes, and theirs has one more."""
     texts = []
@@ -230,6 +246,8 @@ SHAPES = {
     "one name in many versions": (of_versions, 1000),
     "one name from many registries": (of_registries, 1000),
     "sources that differ in `.git`": (with_suffix, 1000),
+    "revisions of one repository": (of_revisions, 1000),
+    "tags of one commit": (of_tags, 1000),
     "packages of one git source": (of_repository, 1000),
     "conflicts about versions": (in_conflict, 1000),
     "conflicts about commits": (of_commits, 1000),

@@ -32,6 +32,20 @@ def of_git(count):
     return [lockfile(package("app", "0.1.0", needs=needs), *packages)], []
 
 
+def of_revisions(count):
+    """So many git packages of one name, version and repository, each of a revision of its own, and a
+    reference to each."""
+    sources = [f"git+https://git.example/all?rev={number:040x}" for number in range(count)]
+    packages = [package("left", "1.0.0", f"{it}#{it[-40:]}") for it in sources]
+    needs = [f"left 1.0.0 ({it})" for it in sources]
+    return [lockfile(package("app", "0.1.0", needs=needs), *packages)], []
+
+
+def of_revisions_asked(count):
+    """The same, and what needs the packages as an argument."""
+    return of_revisions(count)[0], ["app"]
+
+
 def changed(count):
     """Two lockfiles in which one package depends on so many packages, and on no one in both."""
     texts = []
@@ -84,11 +98,24 @@ def in_two_versions(count):
     return [lockfile(package("app", "0.1.0", needs=needs), *packages)], []
 
 
-# The command, what is asked, and the packages of the smaller lockfile.
+def of_a_long_version(count):
+    """A package whose version has so many bytes, and as many references to it."""
+    app = package("app", "0.1.0", needs=["left"] * count)
+    return [lockfile(app, package("left", f"1.0.0-{'a' * count}"))], []
+
+
+# The command, what is asked, and the packages of the smaller lockfile. That of a long version has so
+# many references, and both are beyond the limit on the versions of what packages depend on.
 SHAPES = {
     "one package many times": (["check", "-f"], repeated, 200),
     "git packages of one name, `tree`": (["tree", "-f"], of_git, 200),
     "git packages of one name, `bom`": (["bom", "-f"], of_git, 200),
+    "revisions of one repository, `check`": (["check", "-f"], of_revisions, 200),
+    "revisions of one repository, `why`": (["why", "-f"], of_revisions_asked, 200),
+    "revisions of one repository, `duplicates`": (["duplicates", "-f"], of_revisions, 200),
+    "revisions of one repository, `graph`": (["graph", "-f"], of_revisions, 200),
+    "revisions of one repository, `bom`": (["bom", "-f"], of_revisions, 200),
+    "revisions of one repository, `json`": (["json", "-f"], of_revisions, 200),
     "other dependencies of one package": (["diff", "-d"], changed, 200),
     "a package in ten is named": (["tree", "-f"], specified, 200),
     "each package needs two": (["why", "-f"], halved, 50000),
@@ -96,4 +123,5 @@ SHAPES = {
     "each package needs one": (["why", "--all", "-f"], of_roots, 50000),
     "each name in two versions": (["duplicates", "-f"], in_two_versions, 50000),
     "a picture of packages that need two": (["graph", "-f"], halved, 50000),
+    "references to a long version": (["check", "-f"], of_a_long_version, 20000),
 }

@@ -66,7 +66,15 @@ _cargo_lock() {
     check)
         case $previous in
         -f | --file) _cargo_lock_files ;;
-        *) _cargo_lock_offer '-f --file --any-size --json -h --help' ;;
+        --format) _cargo_lock_offer 'sarif github' ;;
+        --name) _cargo_lock_files ;;
+        *)
+            if [[ $current == -* ]]; then
+                _cargo_lock_offer '-f --file --any-size --json --format --name -h --help'
+            else
+                _cargo_lock_files
+            fi
+            ;;
         esac
         ;;
     why)
@@ -117,7 +125,9 @@ _cargo_lock() {
         -f | --file) _cargo_lock_files ;;
         --cache | --vendor) _cargo_lock_files ;;
         --mirror) ;;
-        *) _cargo_lock_offer '-f --file --any-size --cache --vendor --all --mirror --others --json -h --help' ;;
+        --format) _cargo_lock_offer 'sarif github' ;;
+        --name) _cargo_lock_files ;;
+        *) _cargo_lock_offer '-f --file --any-size --cache --vendor --all --mirror --others --json --format --name -h --help' ;;
         esac
         ;;
     licenses)
@@ -127,7 +137,9 @@ _cargo_lock() {
         --allow) ;;
         --license) ;;
         --exempt) ;;
-        *) _cargo_lock_offer '-f --file --any-size --manifests --allow --license --exempt --json -h --help' ;;
+        --format) _cargo_lock_offer 'sarif github' ;;
+        --name) _cargo_lock_files ;;
+        *) _cargo_lock_offer '-f --file --any-size --manifests --allow --license --exempt --json --format --name -h --help' ;;
         esac
         ;;
     audit)
@@ -138,7 +150,9 @@ _cargo_lock() {
         --deny) _cargo_lock_offer 'unmaintained unsound notice warnings' ;;
         --registry) ;;
         --since) _cargo_lock_files ;;
-        *) _cargo_lock_offer '-f --file --any-size --db --ignore --deny --registry --since --json -h --help' ;;
+        --format) _cargo_lock_offer 'sarif github' ;;
+        --name) _cargo_lock_files ;;
+        *) _cargo_lock_offer '-f --file --any-size --db --ignore --deny --registry --since --json --format --name -h --help' ;;
         esac
         ;;
     help) _cargo_lock_offer 'list translate tree bom json diff check why duplicates graph merge verify licenses audit help' ;;

@@ -83,7 +83,10 @@ complete -c cargo-lock -n '__cargo_lock_runs diff' -F -d 'The lockfile'
 complete -c cargo-lock -n '__cargo_lock_runs check' -s f -l file -r -F -d 'The lockfile, - for standard input'
 complete -c cargo-lock -n '__cargo_lock_runs check' -l any-size -d 'Reads a lockfile of 256 MiB or more too'
 complete -c cargo-lock -n '__cargo_lock_runs check' -l json -d 'Prints one line of JSON'
+complete -c cargo-lock -n '__cargo_lock_runs check' -l format -x -a 'sarif github' -d 'Prints SARIF 2.1.0 in one line, or annotations of GitHub'
+complete -c cargo-lock -n '__cargo_lock_runs check' -l name -r -F -d 'The path of standard input in the report, `Cargo.lock` without it'
 complete -c cargo-lock -n '__cargo_lock_runs check' -s h -l help -d 'Print help'
+complete -c cargo-lock -n '__cargo_lock_runs check' -F -d 'Lockfiles in place of that of --file'
 
 complete -c cargo-lock -n '__cargo_lock_runs why' -s f -l file -r -F -d 'The lockfile, - for standard input'
 complete -c cargo-lock -n '__cargo_lock_runs why' -l any-size -d 'Reads a lockfile of 256 MiB or more too'
@@ -118,6 +121,8 @@ complete -c cargo-lock -n '__cargo_lock_runs verify' -l all -d 'Counts packages 
 complete -c cargo-lock -n '__cargo_lock_runs verify' -l mirror -r -d 'Takes archives of this host for those of each registry'
 complete -c cargo-lock -n '__cargo_lock_runs verify' -l others -d 'Passes over folders of packages that the lockfile does not have'
 complete -c cargo-lock -n '__cargo_lock_runs verify' -l json -d 'Prints one line of JSON'
+complete -c cargo-lock -n '__cargo_lock_runs verify' -l format -x -a 'sarif github' -d 'Prints SARIF 2.1.0 in one line, or annotations of GitHub'
+complete -c cargo-lock -n '__cargo_lock_runs verify' -l name -r -F -d 'The path of standard input in the report, `Cargo.lock` without it'
 complete -c cargo-lock -n '__cargo_lock_runs verify' -s h -l help -d 'Print help'
 
 complete -c cargo-lock -n '__cargo_lock_runs licenses' -s f -l file -r -F -d 'The lockfile, - for standard input'
@@ -127,6 +132,8 @@ complete -c cargo-lock -n '__cargo_lock_runs licenses' -l allow -r -d 'Allows th
 complete -c cargo-lock -n '__cargo_lock_runs licenses' -l license -r -d 'Takes this expression in place of what the manifest says'
 complete -c cargo-lock -n '__cargo_lock_runs licenses' -l exempt -r -d 'Allows this term for this package alone'
 complete -c cargo-lock -n '__cargo_lock_runs licenses' -l json -d 'Prints one line of JSON'
+complete -c cargo-lock -n '__cargo_lock_runs licenses' -l format -x -a 'sarif github' -d 'Prints SARIF 2.1.0 in one line, or annotations of GitHub'
+complete -c cargo-lock -n '__cargo_lock_runs licenses' -l name -r -F -d 'The path of standard input in the report, `Cargo.lock` without it'
 complete -c cargo-lock -n '__cargo_lock_runs licenses' -s h -l help -d 'Print help'
 
 complete -c cargo-lock -n '__cargo_lock_runs audit' -s f -l file -r -F -d 'The lockfile, - for standard input'
@@ -137,6 +144,8 @@ complete -c cargo-lock -n '__cargo_lock_runs audit' -l deny -r -a 'unmaintained 
 complete -c cargo-lock -n '__cargo_lock_runs audit' -l registry -r -d 'Takes packages of this registry for those of crates.io'
 complete -c cargo-lock -n '__cargo_lock_runs audit' -l since -r -F -d 'Counts only what this older lockfile does not have'
 complete -c cargo-lock -n '__cargo_lock_runs audit' -l json -d 'Prints one line of JSON'
+complete -c cargo-lock -n '__cargo_lock_runs audit' -l format -x -a 'sarif github' -d 'Prints SARIF 2.1.0 in one line, or annotations of GitHub'
+complete -c cargo-lock -n '__cargo_lock_runs audit' -l name -r -F -d 'The path of standard input in the report, `Cargo.lock` without it'
 complete -c cargo-lock -n '__cargo_lock_runs audit' -s h -l help -d 'Print help'
 
 complete -c cargo-lock -n '__cargo_lock_runs help' -a 'list translate tree bom json diff check why duplicates graph merge verify licenses audit help' -d COMMAND

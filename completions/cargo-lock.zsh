@@ -96,7 +96,10 @@ _cargo-lock() {
             '(-f --file)'{-f,--file}'[The lockfile, - for standard input]:PATH:_files' \
             '--any-size[Reads a lockfile of 256 MiB or more too]' \
             '--json[Prints one line of JSON]' \
-            '(- *)'{-h,--help}'[Print help]'
+            '--format[Prints SARIF 2.1.0 in one line, or annotations of GitHub]:FORMAT:(sarif github)' \
+            '--name[The path of standard input in the report, `Cargo.lock` without it]:PATH:_files' \
+            '(- *)'{-h,--help}'[Print help]' \
+            '*:PATH:_files'
         ;;
     why)
         _arguments -s \
@@ -143,6 +146,8 @@ _cargo-lock() {
             '*--mirror[Takes archives of this host for those of each registry]:HOST:' \
             '--others[Passes over folders of packages that the lockfile does not have]' \
             '--json[Prints one line of JSON]' \
+            '--format[Prints SARIF 2.1.0 in one line, or annotations of GitHub]:FORMAT:(sarif github)' \
+            '--name[The path of standard input in the report, `Cargo.lock` without it]:PATH:_files' \
             '(- *)'{-h,--help}'[Print help]'
         ;;
     licenses)
@@ -154,6 +159,8 @@ _cargo-lock() {
             '*--license[Takes this expression in place of what the manifest says]:NAME@VERSION=EXPRESSION:' \
             '*--exempt[Allows this term for this package alone]:NAME[@VERSION]=TERM:' \
             '--json[Prints one line of JSON]' \
+            '--format[Prints SARIF 2.1.0 in one line, or annotations of GitHub]:FORMAT:(sarif github)' \
+            '--name[The path of standard input in the report, `Cargo.lock` without it]:PATH:_files' \
             '(- *)'{-h,--help}'[Print help]'
         ;;
     audit)
@@ -166,6 +173,8 @@ _cargo-lock() {
             '*--registry[Takes packages of this registry for those of crates.io]:URL:' \
             '--since[Counts only what this older lockfile does not have]:OLD:_files' \
             '--json[Prints one line of JSON]' \
+            '--format[Prints SARIF 2.1.0 in one line, or annotations of GitHub]:FORMAT:(sarif github)' \
+            '--name[The path of standard input in the report, `Cargo.lock` without it]:PATH:_files' \
             '(- *)'{-h,--help}'[Print help]'
         ;;
     help)

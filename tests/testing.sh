@@ -122,3 +122,12 @@ origin_json() {
     printf '{"kind":"%s","url":"%s","reference":null,"precise":null,"crates_io":%s}' "$kind" \
         "${1#*+}" $is_crates_io
 }
+
+# The number of the line of Cargo.lock in which the package of this name and version begins, or null.
+line_of() {
+    awk -v name="name = \"$1\"" -v version="version = \"$2\"" '
+        $0 == "[[package]]" { begins = FNR; is_named = 0 }
+        $0 == name { is_named = begins > 0 }
+        $0 == version && is_named { print begins; is_found = 1; exit }
+        END { if (!is_found) print "null" }' Cargo.lock
+}

@@ -125,8 +125,9 @@ uint32_t cargo_lock_packages(const uint8_t *text, size_t text_len, uint8_t *out,
                              size_t *length);
 
 /* The edges of the graph of packages: those of package 0 first, and of each package the one for its
- * last dependency first. Of equal packages the last has the edges of all. `out_len` and `*length`
- * count edges. DONE, NO_LOCKFILE, NO_TEXT, NO_MEMORY, NO_ROOM or UNRESOLVED. */
+ * last dependency first. A dependency leads to the package of its own name, version, URL and reference,
+ * or where that does not match, as in a tree; and on to what replaces that package. Of equal packages the
+ * last has the edges of all. `out_len` and `*length` count edges. DONE, NO_LOCKFILE, NO_TEXT, NO_MEMORY, NO_ROOM or UNRESOLVED. */
 uint32_t cargo_lock_edges(const uint8_t *text, size_t text_len, cargo_lock_edge *out,
                           size_t out_len, size_t *length);
 

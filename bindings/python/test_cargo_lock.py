@@ -214,6 +214,21 @@ class Graph(unittest.TestCase):
         self.assertEqual(cargo_lock.edges(LOCKFILE), [Edge(0, 2), Edge(0, 1), Edge(1, 2)])
         self.assertEqual(cargo_lock.edges(""), [])
 
+    def test_edges_of_own_words_and_to_a_replacement(self):
+        git, commit = "git+https://example.org/left", "0123456789" * 4
+        text = (
+            "version = 4\n"
+            '[[package]]\nname = "app"\nversion = "0.1.0"\n'
+            f'dependencies = ["left 1.0.0 ({git}?rev={commit})", "right 1.0.0 ({CRATES_IO})"]\n'
+            f'[[package]]\nname = "left"\nversion = "1.0.0"\nsource = "{git}?rev={commit}#{commit}"\n'
+            f'[[package]]\nname = "left"\nversion = "1.0.0"\nsource = "{git}#{commit}"\n'
+            '[[package]]\nname = "right"\nversion = "1.0.0"\n'
+            f'[[package]]\nname = "right"\nversion = "1.0.0"\nsource = "{CRATES_IO}"\n'
+            'replace = "right 1.0.0"\n'
+        )
+        self.assertEqual(cargo_lock.edges(text), [Edge(0, 3), Edge(0, 1)])
+        self.assertEqual(Lockfile.parse(text).packages[0].dependencies, (1, 3))
+
     def test_a_dependency_without_a_package(self):
         for call in (cargo_lock.edges, lambda text: cargo_lock.tree(text, 0)):
             with self.assertRaises(cargo_lock.UnresolvedError):

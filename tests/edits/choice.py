@@ -128,6 +128,19 @@ def write_record(plan):
     return ""
 
 
+def join(crates, paths):
+    """Writes the lines that hold for the files at hand, of the record and of those at these paths.
+    Returns how many there are."""
+    records = [record.read_all(it).get(record.logic(), {}) for it in (record.FILE, *paths)]
+    found = {}
+    for crate, edits in crates:
+        base = record.base_of(crate)
+        held = [it for it in edits if any(record.has(made, crate, base, it) for made in records)]
+        found[crate.name] = (base, {record.short(it): record.sum_of_edit(it) for it in held})
+    record.write(found)
+    return sum(len(lines) for _, lines in found.values())
+
+
 def forget_others(plans):
     """Takes out of the record what is of none of these plans: crates and edits that are gone."""
     recorded, found = record.read(), {}

@@ -37,7 +37,9 @@ def packages(lockfile):
     except ValueError:
         return []
     plain = re.compile(r"[A-Za-z][\w-]*@\d[\w.+-]*", re.A)
-    return [it for it in found if "source" in it and plain.fullmatch(f"{it['name']}@{it['version']}")]
+    tables = [it for it in found if isinstance(it, dict)] if isinstance(found, list) else []
+    sourced = [it for it in tables if {"name", "version", "source"} <= it.keys()]
+    return [it for it in sourced if plain.fullmatch(f"{it['name']}@{it['version']}")]
 
 
 def make(lockfile, draw, room):

@@ -20,11 +20,11 @@ MODULE = f"{HERE}/out/operations.bc"
 NAMED = ["cli", "cli_input", "cli_lockfile_commands", "cli_folder_commands", "cli_support", "cargo_lock"]
 NAMED += ["cargo_lock_graph", "cargo_lock_encoding", "cargo_lock_lines"]
 NAMED += ["cargo_lock_references", "cargo_lock_parts", "cargo_lock_bom", "cargo_lock_check"]
-NAMED += ["cargo_lock_flaws", "cargo_lock_table_flaws"]
+NAMED += ["cargo_lock_flaws", "cargo_lock_table_flaws", "cargo_lock_location", "cargo_lock_report"]
 NAMED += ["cargo_lock_diff", "cargo_lock_display", "cargo_lock_query", "cargo_lock_merge"]
 NAMED += ["cargo_lock_merge_core", "cargo_lock_diagram", "cargo_lock_verify"]
 NAMED += ["cargo_lock_audit", "cargo_lock_licenses", "cli_folders", "printing"]
-NAMED += ["cargo_lock_json", "cargo_lock_index", "cargo_lock_order"]
+NAMED += ["cargo_lock_json", "cargo_lock_index", "cargo_lock_order", "cargo_lock_edges", "cargo_lock_limit"]
 NAMED += ["semver", "url", "toml", "serde", "serde_json", "uuid"]
 # The crate whose exports are called. Its private modules are public in the copy that is lowered.
 EXPORTING = "cargo_lock_c"

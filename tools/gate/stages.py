@@ -63,6 +63,7 @@ OF_PROGRAM = [
         ("git", "hooks and the merge driver"),
         ("pictures", "pictures as Graphviz reads them"),
         ("json", "documents of JSON against their schemas"),
+        ("reports", "reports that other programs read"),
     )),
 ]
 

@@ -134,7 +134,9 @@ def packages(text: Text) -> list[PackageLine]:
 
 def edges(text: Text) -> list[Edge]:
     """The edges of the graph of packages: those of package 0 first, and of each package the one for
-    its last dependency first. Raises `NotALockfile` and `UnresolvedError`."""
+    its last dependency first. A dependency leads to the package of its own name, version, URL and
+    reference, or where that does not match, as in a tree; and on to what replaces that package. Raises
+    `NotALockfile` and `UnresolvedError`."""
     given = _bytes(text)
     count = ctypes.c_size_t(0)
     room = (_Edge * 0)()

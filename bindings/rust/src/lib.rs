@@ -261,7 +261,9 @@ fn package_of(line: &str) -> Package {
 }
 
 /// The edges of the graph of packages: those of package 0 first, and of each package the one for
-/// its last dependency first. Refused with `Unresolved` where a dependency has no package.
+/// its last dependency first. A dependency leads to the package of its own name, version, URL and
+/// reference, or where that does not match, as in a tree; and on to what replaces that package. Refused
+/// with `Unresolved` where a dependency has no package.
 pub fn edges(text: impl AsRef<[u8]>) -> Result<Vec<Edge>, Error> {
     calls::edges(text.as_ref())
 }

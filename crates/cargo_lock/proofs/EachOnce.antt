@@ -1,11 +1,11 @@
 -- Texts that are sorted, each once.
-use Rattle.std.proofs.Common.{◌≡◌, ◌<◌, ◌⊎◌, inl, inr, ◌↔◌, Bool, true, false, cond, ◌++◌, ℕ, List, [], ◌∷◌, length, get_or, map, bytes_eq, string_bytes, String, Global, sym, ap, subst, ◌∙◌, Some, None, arith}
-use Rattle.std.specs.List.{AllByRecursion, Any, Contains, dedup, filter}
+use Rattle.std.proofs.Common.{◌≡◌, ◌<◌, ◌⊎◌, ◌↔◌, Bool, ◌++◌, ℕ, List, [], ◌∷◌, length, get_or, map, string_bytes, String, Global, sym, ap, subst, ◌∙◌, Some, None, arith}
+use Rattle.std.specs.List.{AllByRecursion, Contains, dedup, filter}
 use Rattle.std.specs.List.Sorted.{IsPermutation, IsSorted, IsStrictlySortedBy}
 use Rattle.std.specs.String.{string_cmp, string_cmp_total, string_eq, string_eq_equiv}
 use Rattle.std.specs.declared.cmp.Ordering.TheVariants.{Less}
 use Rattle.std.proofs.lemmas.List.{get_or-map, length-map}
-use Rattle.std.proofs.lemmas.List.Elements.{All-contains, All-contains_itself, All-filter, filter_passes, Contains-append_cases, Contains-append_left, Contains-append_right, Contains-get_or, Contains-push, Contains-push_cases}
+use Rattle.std.proofs.lemmas.List.Elements.{Contains-get_or}
 use Rattle.std.proofs.lemmas.List.Kept.{Any-dedup, Contains-from_dedup, IsStrictlySortedBy-dedup}
 use Rattle.std.proofs.lemmas.List.Sorted.{Contains-permutation, IsPermutation-sym}
 use Rattle.std.proofs.lemmas.Map.Text.{is_eq-slice_cmp}
@@ -14,6 +14,7 @@ use Rattle.cargo_lock_parts.specs.SourceKey.{text_cmp}
 use Rattle.toml.specs.Data.{Members}
 use Rattle.toml.specs.Parse.{parse_document}
 use Rattle.std.proofs.lemmas.Option.{same_Some}
+use Rattle.lists.proofs.Members.{in-kept, kept-in}
 use Rattle.cargo_lock.specs.LossySources.{AreEachOnce, AreLossySources, is_lossy, written_sources}
 
 -- ---- elements of a list of texts
@@ -65,33 +66,6 @@ each-once texts sorted once moved ascending is =
             subst (Contains (map string_bytes (dedup string_eq sorted))) (sym one ∙ equal) (in-text (dedup string_eq sorted) kept (k, low, stands)),
       );
     }
-
--- ---- elements that pass a test
-
-contains-cases : {X : Type 0} (y : X) (ys : List X) (x : X) → Contains (y ∷ ys) x → (y ≡ x) ⊎ Contains ys x
-contains-cases y ys x h = elim (Contains-append_cases (y ∷ []) ys x h) [
-  | inl here ↦ elim (Contains-push_cases [] y x here) [
-    | inl none ↦ let low = none.1 in absurd (omega (arith, low))
-    | inr same ↦ inl same
-  ]
-  | inr there ↦ inr there
-]
-
-pub kept-in : {X : Type 0} (p : X → Bool) (xs : List X) (x : X) → Contains (filter p xs) x → Contains xs x × (p x ≡ true)
-kept-in p xs x h = (
-  All-contains (Contains xs) (filter p xs) x (All-filter p (Contains xs) xs (All-contains_itself xs)) h,
-  All-contains (λ y. p y ≡ true) (filter p xs) x (filter_passes p xs) h,
-)
-
-pub in-kept : {X : Type 0} (p : X → Bool) (xs : List X) (x : X) → Contains xs x → p x ≡ true → Contains (filter p xs) x
-in-kept p [] x h passes = h
-in-kept p (y ∷ ys) x h passes = elim (contains-cases y ys x h) [
-  | inl same ↦ rw (ap p same ∙ passes) (subst (λ z. Contains (y ∷ filter p ys) z) same (Contains-append_left (y ∷ []) (filter p ys) y (Contains-push [] y)))
-  | inr there ↦ elim (p y) as (λ b. Contains (cond b (y ∷ filter p ys) (filter p ys)) x) [
-    | true ↦ Contains-append_right (y ∷ []) (filter p ys) x (in-kept p ys x there passes)
-    | false ↦ in-kept p ys x there passes
-  ]
-]
 
 -- ---- the lossy sources of a text
 

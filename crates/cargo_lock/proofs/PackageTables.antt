@@ -16,14 +16,15 @@ use Rattle.cargo_lock_references.specs.declared.version.ResolveVersion.{ResolveV
 use Rattle.cargo_lock_references.specs.WrittenReference.{in_full, mark, unless_path, written_source}
 use Rattle.cargo_lock_references.specs.Reference.{Reference, reference_of, reference_text, mark_plain}
 use Rattle.cargo_lock_encoding.specs.Meaning.{package_of}
-use Rattle.cargo_lock_references.specs.Optional.{◌>>=◌, map_all, map_some}
+use Rattle.cargo_lock_parts.specs.Optional.{◌>>=◌, map_all, map_some}
 use Rattle.cargo_lock_references.specs.Records.{EncodedPackage, unmarked_source, encoded_identity, is_escaped}
 use Rattle.cargo_lock_references.specs.ResolutionSearch.{resolution_of}
 use Rattle.cargo_lock_references.specs.ReadBack.{DigestReadsBack, ReferenceSurvives, SourceSurvives, SourceTextReadsBack}
 use Rattle.cargo_lock_encoding.specs.Survives.{PackageSurvives}
 use Rattle.cargo_lock_encoding.specs.Table.{checksum_value, package_table, encoded_package_with, reference_value, source_value}
 use Rattle.cargo_lock_lines.specs.TableOfWords.{present_members, unless_empty}
-use Rattle.cargo_lock_encoding.specs.TableReading.{checksum_from, identity_at, package_at_key, reference_in, optional_by, optional_list, read_all, required_text, source_in}
+use Rattle.toml_fields.specs.Fields.{optional_by, optional_list, read_all, required_text}
+use Rattle.cargo_lock_encoding.specs.TableReading.{checksum_from, identity_at, package_at_key, reference_in, source_in}
 use Rattle.cargo_lock_references.specs.Reference.{version_of}
 use Rattle.cargo_lock_encoding.proofs.MeansLemmas.{bare-mark_plain, bind-parts, map-parts}
 use Rattle.cargo_lock.proofs.ResolutionKeys.{IsOf, in_full-of, reference-survives, reference-reads}

@@ -6,7 +6,7 @@ use Rattle.toml.specs.Data.{Data, Items, integer}
 use Rattle.cargo_lock_parts.specs.Identity.{Identity, PackageData, identity_of, package_key}
 use Rattle.cargo_lock_encoding.specs.Meaning.{lockfile_of, meaning}
 use Rattle.cargo_lock_references.specs.Metadata.{metadata_of}
-use Rattle.cargo_lock_references.specs.Optional.{◌>>=◌}
+use Rattle.cargo_lock_parts.specs.Optional.{◌>>=◌}
 use Rattle.cargo_lock_encoding.specs.Means.{Means, TextMeans}
 use Rattle.cargo_lock.specs.Printed.{PrintedBack, TextMeansOne, TextReadsBack}
 use Rattle.cargo_lock_lines.specs.Layout.{join_lines}
@@ -22,7 +22,8 @@ use Rattle.cargo_lock_references.specs.declared.version.ResolveVersion.TheVarian
 use Rattle.cargo_lock_encoding.specs.Survives.{Survives, in_format}
 use Rattle.cargo_lock_encoding.specs.Table.{encoded_of, encoded_package_of, encoded_package_value, metadata_value, patch_value, table_of, written_version}
 use Rattle.cargo_lock_lines.specs.TableOfWords.{present_members, unless_empty}
-use Rattle.cargo_lock_encoding.specs.TableReading.{all_encoded_packages_at, encoded_at, encoded_packages_at, optional_list}
+use Rattle.toml_fields.specs.Fields.{optional_list}
+use Rattle.cargo_lock_encoding.specs.TableReading.{all_encoded_packages_at, encoded_at, encoded_packages_at}
 use Rattle.cargo_lock_encoding.proofs.MeansLemmas.{Means-from, Means-one}
 use Rattle.cargo_lock.proofs.PackageTables.{list-read}
 use Rattle.cargo_lock_encoding.proofs.PrintedTables.{text-is-read}

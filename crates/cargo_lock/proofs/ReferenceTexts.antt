@@ -18,7 +18,7 @@ use Rattle.cargo_lock_parts.specs.SourceText.{marked_text}
 use Rattle.cargo_lock_references.specs.Words.{words, IsWord, IsDense}
 use Rattle.cargo_lock_references.specs.Reference.{Reference, Refusal, after_source, after_version, bracketed_source, reference_of, reference_of_words, reference_or_refusal, reference_text, one_word, two_words, three_words, mark_plain, marked_source_part, version_part}
 use Rattle.cargo_lock_references.specs.ReferenceOrder.{marked_key}
-use Rattle.cargo_lock_references.specs.Optional.{◌>>=◌}
+use Rattle.cargo_lock_parts.specs.Optional.{◌>>=◌}
 use Rattle.cargo_lock_references.specs.ReadBack.{WordsReadBack, SourceTextReadsBack, VersionSurvives}
 use Rattle.cargo_lock_references.specs.Reference.{version_of}
 use Rattle.cargo_lock_references.proofs.DenseWords.{bracketed, words-words, words-utf8, words-word, words-more, utf8-cut, some-word, dense-utf8, utf8-ascii, bracketed-whole, bracketed-dense, dense-bracketed}

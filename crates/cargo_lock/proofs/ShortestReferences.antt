@@ -17,7 +17,7 @@ use Rattle.cargo_lock_references.specs.WrittenReference.{has_name_and_version, h
 use Rattle.cargo_lock_references.specs.Reference.{Reference, reference_text}
 use Rattle.cargo_lock_references.specs.ReferenceOrder.{reference_key}
 use Rattle.cargo_lock_references.specs.Metadata.{metadata_of}
-use Rattle.cargo_lock_references.specs.Optional.{◌>>=◌}
+use Rattle.cargo_lock_parts.specs.Optional.{◌>>=◌}
 use Rattle.cargo_lock_references.specs.Records.{EncodedPackage}
 use Rattle.cargo_lock_encoding.specs.Lockfiles.{LockfileData, is_escaped_number}
 use Rattle.cargo_lock_references.specs.ResolutionSearch.{same_text}
@@ -26,7 +26,7 @@ use Rattle.cargo_lock_encoding.specs.Survives.{ListedSurvives, Survives}
 use Rattle.cargo_lock_references.specs.ReadBack.{SourceSurvives}
 use Rattle.cargo_lock_encoding.specs.Table.{checksum_value, encoded_of, encoded_table, encoded_package_of, package_table, encoded_package_value, reference_value, metadata_value, packages_value, patch_value, encoded_root, source_value, table_of, written_version}
 use Rattle.cargo_lock_lines.specs.TableOfWords.{present_members, unless_empty}
-use Rattle.cargo_lock_encoding.specs.TableReading.{members_in, required_list, text_in}
+use Rattle.toml_fields.specs.Fields.{members_in, required_list, text_in}
 use Rattle.cargo_lock_references.proofs.WrittenReferenceLemmas.{count-miss}
 use Rattle.cargo_lock.proofs.ReferenceTexts.{Alike, whole-reads}
 use Rattle.cargo_lock.proofs.ResolutionKeys.{written_reference-of}

@@ -17,14 +17,15 @@ use Rattle.cargo_lock_encoding.specs.Lockfiles.{format_of}
 use Rattle.cargo_lock_encoding.specs.Meaning.{ResolvedData, all_packages, completed_lockfile, lockfile_of, meaning, package_of, resolved_values, root_package}
 use Rattle.cargo_lock_encoding.specs.Means.{encoded_checksum, reading_list}
 use Rattle.cargo_lock_references.specs.Metadata.{checksum_in, has_checksum_key, metadata_of}
-use Rattle.cargo_lock_references.specs.Optional.{◌>>=◌, map_all, map_some}
+use Rattle.cargo_lock_parts.specs.Optional.{◌>>=◌, map_all, map_some}
 use Rattle.cargo_lock_encoding.specs.Lockfiles.{EncodedData, LockfileData, is_escaped_number}
 use Rattle.cargo_lock_references.specs.Records.{EncodedPackage, Texts, encoded_identity, is_escaped}
 use Rattle.cargo_lock_encoding.specs.Survives.{ChecksumSurvives, ListedSurvives, FormatSurvives, HasSamePackages, PatchSurvives, ReadsBack, RootSurvives, Survives, SurvivesExactly, in_format}
 use Rattle.cargo_lock_references.specs.ReadBack.{DigestReadsBack}
 use Rattle.cargo_lock_encoding.specs.Table.{checksum_value, encoded_of, encoded_table, encoded_package_of, package_table, encoded_package_value, metadata_value, unused_patch_value, patch_table, patch_value, encoded_root, table_of, written_checksum, written_version}
 use Rattle.cargo_lock_lines.specs.TableOfWords.{present_members, text_members, unless_no_text}
-use Rattle.cargo_lock_encoding.specs.TableReading.{EncodedPackages, all_encoded_packages_at, checksum_from, encoded_at, encoded_packages_at, package_at_key, encoded_package_in, metadata_in, number_in, optional_by, optional_list, pairs_in, identity_at, unused_patch_in, patch_in, put_all, read_all, source_in}
+use Rattle.toml_fields.specs.Fields.{number_in, optional_by, optional_list, read_all}
+use Rattle.cargo_lock_encoding.specs.TableReading.{EncodedPackages, all_encoded_packages_at, checksum_from, encoded_at, encoded_packages_at, package_at_key, encoded_package_in, metadata_in, pairs_in, identity_at, unused_patch_in, patch_in, put_all, source_in}
 use Rattle.cargo_lock_references.specs.Reference.{version_of}
 use Rattle.cargo_lock_encoding.proofs.MeansLemmas.{Means-from, bind-parts, map-parts, meaning-from}
 use Rattle.cargo_lock.proofs.PackageTables.{all-parts, all-made, cons-parts, digest-survives, identity_from, not-cons, package-parts, package-reads, package-survives, source-reads, source-survives, source_data, table-read}

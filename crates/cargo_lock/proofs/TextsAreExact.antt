@@ -8,7 +8,7 @@ use Rattle.toml.specs.View.{items_of}
 use Rattle.cargo_lock_parts.specs.declared.error.Error.{Error}
 use Rattle.cargo_lock_parts.specs.Identity.{Identity, PackageData, PackageKey, identity_key, identity_of, package_key}
 use Rattle.cargo_lock_references.specs.Metadata.{metadata_of}
-use Rattle.cargo_lock_references.specs.Optional.{BothOrNone}
+use Rattle.cargo_lock_parts.specs.Optional.{BothOrNone}
 use Rattle.cargo_lock_references.specs.Records.{EncodedPackage, Texts}
 use Rattle.cargo_lock_references.specs.WrittenReference.{written_reference}
 use Rattle.cargo_lock_references.specs.declared.version.ResolveVersion.{ResolveVersion}
@@ -19,7 +19,8 @@ use Rattle.cargo_lock.specs.Printed.{TextIsExact, TextReadsBack}
 use Rattle.cargo_lock_encoding.specs.Survives.{Survives, in_format}
 use Rattle.cargo_lock_encoding.specs.Table.{encoded_of, encoded_package_of, encoded_package_value, metadata_value, package_table, patch_value, written_checksum, written_version}
 use Rattle.cargo_lock_lines.specs.TableOfWords.{unless_empty}
-use Rattle.cargo_lock_encoding.specs.TableReading.{EncodedPackages, encoded_package_in, encoded_at, metadata_in, number_in, optional_by, patch_in, package_at_key, read_all}
+use Rattle.toml_fields.specs.Fields.{number_in, optional_by, read_all}
+use Rattle.cargo_lock_encoding.specs.TableReading.{EncodedPackages, encoded_package_in, encoded_at, metadata_in, patch_in, package_at_key}
 use Rattle.cargo_lock_encoding.proofs.MeansLemmas.{bind-parts}
 use Rattle.cargo_lock.proofs.PackageTables.{all-parts, cons-parts, list-read, not-cons, table-read}
 use Rattle.cargo_lock_encoding.proofs.PrintedTables.{text-is-read}

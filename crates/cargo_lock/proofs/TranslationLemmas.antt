@@ -8,7 +8,7 @@ use Rattle.cargo_lock_parts.specs.Identity.{PackageData, package_key}
 use Rattle.cargo_lock_references.specs.declared.version.ResolveVersion.{ResolveVersion}
 use Rattle.cargo_lock_encoding.specs.Meaning.{meaning}
 use Rattle.cargo_lock_references.specs.Metadata.{metadata_of}
-use Rattle.cargo_lock_references.specs.Optional.{◌>>=◌}
+use Rattle.cargo_lock_parts.specs.Optional.{◌>>=◌}
 use Rattle.cargo_lock_encoding.specs.Lockfiles.{LockfileData}
 use Rattle.cargo_lock_references.specs.Records.{Texts}
 use Rattle.cargo_lock_encoding.specs.Survives.{in_format}

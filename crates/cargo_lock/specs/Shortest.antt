@@ -8,13 +8,13 @@ use Rattle.cargo_lock_references.specs.declared.version.ResolveVersion.{ResolveV
 use Rattle.cargo_lock_references.specs.declared.version.ResolveVersion.TheVariants.{V1, V2, V3, V4}
 use Rattle.cargo_lock_references.specs.Reference.{Reference, reference_of, reference_text}
 use Rattle.cargo_lock_references.specs.ReferenceOrder.{reference_key}
-use Rattle.cargo_lock_references.specs.Optional.{◌>>=◌}
+use Rattle.cargo_lock_parts.specs.Optional.{◌>>=◌}
 use Rattle.cargo_lock_encoding.specs.Lockfiles.{LockfileData}
 use Rattle.cargo_lock_references.specs.ResolutionSearch.{same_text}
 use Rattle.cargo_lock_references.specs.ReadBack.{ResolvesToEqual}
 use Rattle.cargo_lock_encoding.specs.Survives.{Survives}
 use Rattle.cargo_lock_encoding.specs.Table.{table_of}
-use Rattle.cargo_lock_encoding.specs.TableReading.{members_in, required_list, text_in}
+use Rattle.toml_fields.specs.Fields.{members_in, required_list, text_in}
 
 -- ---- references that name
 

@@ -5,7 +5,7 @@ ghost use Rattle.std.specs.Cmp.Lexicographic.{pointwise};
 ghost use Rattle.cargo_lock_references.specs.Records.{texts_of};
 ghost use Rattle.cargo_lock.specs.Same.{is_same_metadata, is_same_pair};
 
-mod checksums;
+pub mod checksums;
 pub mod encoding;
 mod lossy_sources;
 mod reading;

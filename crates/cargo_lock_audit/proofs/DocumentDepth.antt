@@ -3,14 +3,17 @@ use Rattle.std.proofs.Common.{◌≤◌, ℕ, List, [], ◌∷◌, Bool, Option,
 use Rattle.json.specs.Json.{Members, member, no_members, string}
 use Rattle.json.specs.Tree.{depth, members_depth}
 use Rattle.cargo_lock_audit.specs.Details.{AffectedData, DetailsData, FunctionData}
-use Rattle.cargo_lock_audit.specs.Findings.{AdvisoryFindingData}
+use Rattle.cargo_lock_audit.specs.Findings.{AdvisoryFindingData, advisory_finding_of}
+use Rattle.cargo_lock_audit.specs.declared.finding.Finding.{Finding}
 use Rattle.cargo_lock_audit.specs.Requirement.{RequirementData}
 use Rattle.cargo_lock_audit.specs.Report.{ReportData}
 use Rattle.cargo_lock_display.specs.PackageJson.{package_json}
 use Rattle.cargo_lock_parts.specs.Identity.{PackageData, identity_of}
-use Rattle.cargo_lock_audit.specs.Document.{advisories_json, advisory_finding_json, affected_json, affected_or_null, details_members, functions_members, texts_json, truth_or_null}
+use Rattle.cargo_lock_audit.specs.Document.{advisory_finding_json, affected_json, affected_or_null, details_members, advisories_document, functions_members, located_finding_json, texts_json, truth_or_null}
 use Rattle.cargo_lock_display.specs.File.{FileData, document_json}
 use Rattle.cargo_lock_display.proofs.Depth.{identity-depth}
+use Rattle.cargo_lock_location.proofs.LineDepth.{line-depth}
+use Rattle.cargo_lock_location.specs.declared.located.Located.{Located}
 use Rattle.printing.proofs.Depth.{array-depth, text-depth}
 
 texts-depth : (texts : List (List ℕ)) → depth (texts_json texts) ≤ 1
@@ -43,10 +46,11 @@ details-depth d further low = omega (
   affected-depth d.affected,
 )
 
-finding-depth : (f : AdvisoryFindingData) → depth (advisory_finding_json f) ≤ 4
+finding-depth : (line : Option ℕ) (f : AdvisoryFindingData) → depth (advisory_finding_json line f) ≤ 4
 unfolding advisory_finding_json
-finding-depth f = omega (
+finding-depth line f = omega (
   arith,
+  line-depth line,
   identity-depth (identity_of f.content) f.content.checksum,
   texts-depth (map (λ (r : RequirementData). r.text) f.advisory.patched),
   texts-depth f.advisory.aliases,
@@ -54,12 +58,13 @@ finding-depth f = omega (
   details-depth f.advisory.details (member (codes "brought") (truth_or_null f.brought) no_members) (brought-depth f.brought),
 )
 
-pub advisories-depth : (file : FileData) (r : ReportData) → depth (advisories_json file r) ≤ 6
-unfolding advisories_json document_json
-advisories-depth file r = omega (
+pub document-depth : (file : FileData) (findings : List (Located Finding)) (r : ReportData)
+    → depth (advisories_document file (map located_finding_json findings) r) ≤ 6
+unfolding advisories_document document_json
+document-depth file findings r = omega (
   arith,
   text-depth file.path,
-  array-depth 4 advisory_finding_json finding-depth r.findings,
+  array-depth 4 located_finding_json (λ (l : Located Finding). finding-depth l.line (advisory_finding_of l.found.now)) findings,
   texts-depth r.unmet,
   array-depth 3 package_json (λ (p : PackageData). identity-depth (identity_of p) p.checksum) r.coverage.not_compared,
 )

@@ -6,7 +6,7 @@ use Rattle.std.specs.Str.{trim_start}
 use Rattle.std.specs.Str.Lines.{lines}
 use Rattle.toml.specs.Data.{Data, Members, get_member}
 use Rattle.toml.specs.Parse.{parse_document}
-use Rattle.cargo_lock_references.specs.Optional.{◌>>=◌}
+use Rattle.cargo_lock_parts.specs.Optional.{◌>>=◌}
 use Rattle.cargo_lock_parts.specs.Source.{Source}
 use Rattle.cargo_lock_parts.specs.SourceReading.{source_of}
 use Rattle.cargo_lock_audit.specs.declared.advisory_reading.Fields.{Fields}
@@ -16,8 +16,8 @@ use Rattle.cargo_lock_audit.specs.DetailsReading.{details_at}
 use Rattle.cargo_lock_audit.specs.FrontMatter.{body_of, front_length, joined, title_in}
 use Rattle.cargo_lock_audit.specs.Requirement.{RequirementData}
 use Rattle.cargo_lock_audit.specs.RequirementReading.{requirement_of}
-use Rattle.cargo_lock_audit.specs.Values.{items_in, members_in, optional_by, optional_text}
-use Rattle.cargo_lock_audit.specs.Values.{read_all, required_members, required_text, text_in}
+use Rattle.toml_fields.specs.Fields.{items_in, members_in, optional_by, optional_text}
+use Rattle.toml_fields.specs.Fields.{read_all, required_members, required_text, text_in}
 use Rattle.cargo_lock_audit.specs.Values.{texts_at_key}
 
 -- the source that a value reads as

@@ -2,10 +2,10 @@
 use Rattle.std.specs.Prelude.{[], ◌∷◌, ℕ, List, Option, None, Some, codes, option_map}
 use Rattle.std.specs.Option.{option_copied}
 use Rattle.toml.specs.Data.{Data, Members, no_members, member, get_member}
-use Rattle.cargo_lock_references.specs.Optional.{◌>>=◌}
+use Rattle.cargo_lock_parts.specs.Optional.{◌>>=◌}
 use Rattle.cargo_lock_audit.specs.declared.details_reading.Told.{Told}
 use Rattle.cargo_lock_audit.specs.Details.{AffectedData, DetailsData, FunctionData}
-use Rattle.cargo_lock_audit.specs.Values.{members_in, optional_by, optional_text, required_text}
+use Rattle.toml_fields.specs.Fields.{members_in, optional_by, optional_text, required_text}
 use Rattle.cargo_lock_audit.specs.Values.{texts_at_key, text_list_in}
 
 -- ---- what is affected

@@ -8,12 +8,16 @@ use Rattle.json.specs.Token.{Token, key}
 use Rattle.json.specs.Tree.{json_tokens}
 use Rattle.cargo_lock_audit.specs.Advisory.{AdvisoryData}
 use Rattle.cargo_lock_audit.specs.Details.{AffectedData, DetailsData, FunctionData}
-use Rattle.cargo_lock_audit.specs.Findings.{AdvisoryFindingData}
+use Rattle.cargo_lock_audit.specs.declared.finding.Finding.{Finding}
+use Rattle.cargo_lock_audit.specs.Findings.{AdvisoryFindingData, advisory_finding_of}
 use Rattle.cargo_lock_audit.specs.Lines.{advisory_finding_line}
 use Rattle.cargo_lock_audit.specs.Report.{ReportData}
 use Rattle.cargo_lock_audit.specs.Requirement.{RequirementData}
 use Rattle.cargo_lock_display.specs.File.{FileData, document_json}
 use Rattle.cargo_lock_display.specs.PackageJson.{package_json, packages_json}
+use Rattle.cargo_lock_location.specs.Lines.{LinesData, line_of_package}
+use Rattle.cargo_lock_location.specs.Located.{line_or_null}
+use Rattle.cargo_lock_location.specs.declared.located.Located.{Located}
 use Rattle.printing.specs.Json.{items_of}
 use Rattle.printing.specs.Value.{text_or_null}
 
@@ -62,12 +66,17 @@ abbrev pub truth_or_null : Option Bool → Json
 truth_or_null None = null
 truth_or_null (Some b) = boolean b
 
--- the JSON of a finding
-unfoldable pub advisory_finding_json : AdvisoryFindingData → Json
-advisory_finding_json f = object
+-- the number of the line of the package of a finding, where it is known
+abbrev pub advisory_finding_line_in : LinesData → AdvisoryFindingData → Option ℕ
+advisory_finding_line_in lines f = line_of_package lines f.content
+
+-- the JSON of a finding at a line
+unfoldable pub advisory_finding_json : Option ℕ → AdvisoryFindingData → Json
+advisory_finding_json line f = object
     (member (codes "kind") (string (advisory_kind f.advisory))
     (member (codes "denied") (boolean f.is_denied)
     (member (codes "message") (string (advisory_finding_line f))
+    (member (codes "line") (line_or_null line)
     (member (codes "package") (package_json f.content)
     (member (codes "id") (string f.advisory.id)
     (member (codes "title") (string f.advisory.title)
@@ -75,17 +84,29 @@ advisory_finding_json f = object
     (member (codes "aliases") (texts_json f.advisory.aliases)
     (member (codes "unaffected") (requirements_json f.advisory.unaffected)
     (details_members f.advisory.details
-    (member (codes "brought") (truth_or_null f.brought) no_members)))))))))))
+    (member (codes "brought") (truth_or_null f.brought) no_members))))))))))))
 
--- the findings, each once and in order, the texts that are ignored and of which no package has the
+-- the JSON of a finding of the program at its line
+abbrev pub located_finding_json : Located Finding → Json
+located_finding_json l = advisory_finding_json l.line (advisory_finding_of l.found.now)
+
+-- the JSON of a finding, by the lines of the packages
+abbrev pub lined_finding_json : LinesData → AdvisoryFindingData → Json
+lined_finding_json lines f = advisory_finding_json (advisory_finding_line_in lines f) f
+
+-- the findings as they are in JSON, the texts that are ignored and of which no package has the
 -- advisory, how many packages were compared with how many advisories, and the packages that were not
-unfoldable pub advisories_json : FileData → ReportData → Json
-advisories_json file r = document_json (codes "cargo-lock-audit/1") file
-    (member (codes "findings") (array (items_of (map advisory_finding_json r.findings)))
+unfoldable pub advisories_document : FileData → List Json → ReportData → Json
+advisories_document file findings r = document_json (codes "cargo-lock-audit/1") file
+    (member (codes "findings") (array (items_of findings))
     (member (codes "unmet") (texts_json r.unmet)
     (member (codes "compared") (number (decimal (length r.coverage.compared)))
     (member (codes "advisories") (number (decimal r.coverage.advisories))
     (member (codes "not_compared") (packages_json r.coverage.not_compared) no_members)))))
+
+-- the same of a report, whose findings are in it each once and in order, by the lines of the packages
+abbrev pub advisories_json : FileData → LinesData → ReportData → Json
+advisories_json file lines r = advisories_document file (map (lined_finding_json lines) r.findings) r
 
 -- ---- tokens, of which no public contract speaks
 

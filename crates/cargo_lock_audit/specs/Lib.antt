@@ -16,3 +16,4 @@ pub mod Settings
 pub mod Texts
 pub mod Values
 pub mod Document
+pub mod Reporting

@@ -2,7 +2,7 @@
 use Rattle.std.specs.Prelude.{ℕ, List, Option, None, Some, if◌then◌else◌}
 use Rattle.cargo_lock_parts.specs.Source.{Source, is_registry}
 use Rattle.cargo_lock_parts.specs.SourceReading.{source_of}
-use Rattle.cargo_lock_references.specs.Optional.{◌>>=◌}
+use Rattle.cargo_lock_parts.specs.Optional.{◌>>=◌}
 use Rattle.cargo_lock_audit.specs.declared.settings.Settings.{Settings}
 use Rattle.cargo_lock_audit.specs.Texts.{bytes_of_texts}
 

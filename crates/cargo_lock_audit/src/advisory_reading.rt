@@ -10,17 +10,14 @@ ghost use Rattle.cargo_lock_audit.specs.AdvisoryReading.{assembled, fields_of, k
 ghost use Rattle.cargo_lock_audit.specs.AdvisoryReading.{ranges_at, ranges_in, requirement_in};
 ghost use Rattle.cargo_lock_audit.specs.AdvisoryReading.{requirements_in, source_in, titled_names};
 ghost use Rattle.cargo_lock_audit.specs.Texts.{bytes_of_texts};
-ghost use Rattle.cargo_lock_audit.specs.Values.{optional_by, read_all};
+ghost use Rattle.toml_fields.specs.Fields.{optional_by, read_all};
 
 use crate::advisory::Advisory;
 use crate::details::Details;
 use crate::details_reading::details_at;
 use crate::front_matter::{body_of, front_length, front_of, lines_from_first, title_after};
 use crate::requirement::Requirement;
-use crate::values::{
-    copied, list_in, members_in, optional_text, required_members, required_text, text_in,
-    texts_at_key, value_at,
-};
+use crate::values::{copied, texts_at_key};
 use cargo_lock_parts::error::{Error, Result};
 use cargo_lock_parts::package::SourceId;
 use printing::Quoted;
@@ -28,6 +25,9 @@ use std::alloc::{AllocError, Global};
 use std::marker::Model;
 use toml::de::Error as TomlError;
 use toml::{Table, Value};
+use toml_fields::{
+    list_in, members_in, optional_text, required_members, required_text, text_in, value_at,
+};
 
 impl Advisory {
     /// The advisory that a file is. White space before the first line is dropped. The first line is

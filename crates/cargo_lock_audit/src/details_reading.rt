@@ -7,16 +7,15 @@ ghost use Rattle.cargo_lock_parts.specs.Error.{Reads};
 ghost use Rattle.cargo_lock_audit.specs.DetailsReading.{affected_at, affected_in, details_at};
 ghost use Rattle.cargo_lock_audit.specs.DetailsReading.{function_in, functions_at, functions_in};
 ghost use Rattle.cargo_lock_audit.specs.DetailsReading.{joined_details, lists_at, told_at, details_told};
-ghost use Rattle.cargo_lock_audit.specs.Values.{optional_by};
+ghost use Rattle.toml_fields.specs.Fields.{optional_by};
 
 use crate::details::{Affected, Details, Function};
-use crate::values::{
-    copied, members_in, optional_text, required_text, text_list_in, texts_at_key, value_at,
-};
+use crate::values::{copied, text_list_in, texts_at_key};
 use cargo_lock_parts::error::Result;
 use std::alloc::{AllocError, Global};
 use std::marker::Model;
 use toml::{Table, Value};
+use toml_fields::{members_in, optional_text, required_text, value_at};
 
 /// What the table `advisory` of the whole table says besides.
 #[tactic(auto, unfolding(crate::specs::DetailsReading::details_at))]

@@ -1,6 +1,6 @@
 //! What is found of packages by advisories, as a document of JSON.
 
-ghost use Rattle.std.specs.Prelude.{◌≡◌, ◌∷◌, IfOk, codes, decimal, length, option_map};
+ghost use Rattle.std.specs.Prelude.{◌≡◌, ◌∷◌, IfOk, codes, decimal, length, map, option_map};
 ghost use Rattle.std.specs.Prelude.{string_bytes};
 ghost use Rattle.json.specs.Json.{object};
 ghost use Rattle.json.specs.Token.{key, number, string};
@@ -8,6 +8,7 @@ ghost use Rattle.json.specs.Tree.{json_tokens};
 ghost use Rattle.cargo_lock_audit.specs.Coverage.{coverage_data_of};
 ghost use Rattle.cargo_lock_audit.specs.Document.{advisory_kind, affected_json, affected_or_null};
 ghost use Rattle.cargo_lock_audit.specs.Document.{details_tokens, functions_members};
+ghost use Rattle.cargo_lock_audit.specs.Document.{located_finding_json};
 ghost use Rattle.cargo_lock_audit.specs.Document.{requirements_json, texts_json, truth_or_null};
 ghost use Rattle.cargo_lock_audit.specs.Document as spec;
 ghost use Rattle.cargo_lock_audit.specs.Report.{report_data_of};
@@ -23,25 +24,49 @@ use crate::finding::Finding;
 use crate::report::{Report, Unmet};
 use crate::requirement::Requirement;
 use cargo_lock_display::{File, begin_document, put_package, put_packages};
+use cargo_lock_location::{Lined, Located, PackageLines, locate, put_line};
 use printing::{JsonWriter, ToJson, json_line, write_array};
 use std::alloc::{AllocError, Global};
 
 /// The document of what is found of packages by advisories, in one line:
 /// `{"schema":"cargo-lock-audit/1","path":"Cargo.lock","format":4,"findings":[..],"unmet":[..],
-/// "compared":39,"advisories":812,"not_compared":[..]}`. Fails when out of memory.
+/// "compared":39,"advisories":812,"not_compared":[..]}`. Each finding is at the line of its package,
+/// by these lines. Fails when out of memory.
 ///
 /// ```
-/// let text = advisories_json(rt.alloc(), &file, report)?;
+/// let text = advisories_json(rt.alloc(), file, report, lines)?;
 /// ```
 pub fn advisories_json(
     alloc: Global,
     file: &File<'_>,
     report: &Report<'_, '_, '_>,
+    lines: &PackageLines<'_>,
 ) -> Result<String, AllocError>
     ensures { IfOk result (λ text. IsJsonText
-        (spec.advisories_json file.now (report_data_of report.now)) (string_bytes text)) }
+        (spec.advisories_json file.now lines.now (report_data_of report.now)) (string_bytes text)) }
 {
-    json_line(alloc, &Document { file, report })
+    let findings = locate(alloc, &report.findings, lines)?;
+    advisories_document(alloc, file, report, &findings)
+}
+
+// The document of a report, whose findings are these at these lines.
+fn advisories_document(
+    alloc: Global,
+    file: &File<'_>,
+    report: &Report<'_, '_, '_>,
+    findings: &[Located<'_, Finding<'_, '_>>],
+) -> Result<String, AllocError>
+    ensures { IfOk result (λ text. IsJsonText (spec.advisories_document file.now
+        (map located_finding_json findings.now) (report_data_of report.now)) (string_bytes text)) }
+{
+    json_line(
+        alloc,
+        &Document {
+            file,
+            report,
+            findings,
+        },
+    )
 }
 
 // What the document has.
@@ -49,18 +74,21 @@ pub fn advisories_json(
 struct Document<'d, 'r> {
     file: &'d File<'d>,
     report: &'d Report<'r, 'r, 'r>,
+    findings: &'d [Located<'r, Finding<'r, 'r>>],
 }
 
 impl ToJson for Document<'_, '_> {
-    ghost use Rattle.cargo_lock_audit.specs.Document.{advisories_json};
+    ghost use Rattle.std.specs.Prelude.{map};
+    ghost use Rattle.cargo_lock_audit.specs.Document.{advisories_document, located_finding_json};
     ghost use Rattle.cargo_lock_audit.specs.Report.{report_data_of};
 
-    ghost json = { λ d. advisories_json d.file.now (report_data_of d.report.now) };
+    ghost json = { λ d. advisories_document d.file.now (map located_finding_json d.findings.now)
+        (report_data_of d.report.now) };
 
     fn write_json(&self, out: &mut JsonWriter) -> Result<(), AllocError> {
         begin_document(out, "cargo-lock-audit/1", self.file)?;
         out.key("findings")?;
-        write_array(out, &self.report.findings)?;
+        write_array(out, self.findings)?;
         out.key("unmet")?;
         write_array(out, &self.report.unmet)?;
         put_coverage(out, &self.report.coverage)?;
@@ -82,18 +110,25 @@ fn put_coverage(out: &mut JsonWriter, coverage: &Coverage<'_>) -> Result<(), All
     put_packages(out, &coverage.not_compared)
 }
 
-impl ToJson for Finding<'_, '_> {
+impl Lined for Finding<'_, '_> {
     ghost use Rattle.cargo_lock_audit.specs.Findings.{advisory_finding_of};
-    ghost use Rattle.cargo_lock_audit.specs.Document.{advisory_finding_json};
+    ghost use Rattle.cargo_lock_audit.specs.Document.{advisory_finding_json, advisory_finding_line_in};
 
-    ghost json = { λ finding. advisory_finding_json (advisory_finding_of finding) };
+    ghost line_in = { λ lines finding. advisory_finding_line_in lines (advisory_finding_of finding) };
 
-    fn write_json(&self, out: &mut JsonWriter) -> Result<(), AllocError> {
+    ghost json_at = { λ line finding. advisory_finding_json line (advisory_finding_of finding) };
+
+    fn line(&self, lines: &PackageLines<'_>) -> Option<usize> {
+        lines.of(self.package)
+    }
+
+    fn write_json_at(&self, line: Option<usize>, out: &mut JsonWriter) -> Result<(), AllocError> {
         let advisory = self.advisory;
         out.begin_object()?;
         out.string_member("kind", kind(advisory))?;
         out.boolean_member("denied", self.is_denied)?;
         out.displayed_member("message", self)?;
+        put_line(out, line)?;
         out.key("package")?;
         put_package(out, self.package)?;
         put_advisory(out, advisory)?;

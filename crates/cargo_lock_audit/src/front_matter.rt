@@ -8,6 +8,7 @@ ghost use Rattle.cargo_lock_parts.specs.Error.{IsParseOrMemory, Reads};
 ghost use Rattle.cargo_lock_audit.specs.FrontMatter.{body_of, front_length, is_fence, joined};
 ghost use Rattle.cargo_lock_audit.specs.FrontMatter.{line_text, lines_at, title_in, title_of};
 
+use cargo_lock_location::lines_in;
 use cargo_lock_parts::error::{Error, Result};
 use std::alloc::{AllocError, Global};
 
@@ -18,18 +19,7 @@ pub(crate) fn lines_from_first<'a>(
 ) -> std::result::Result<Vec<&'a str>, AllocError>
     ensures { IfOk result (λ all. lines_at all.items ≡ lines (trim_start text.now)) }
 {
-    lines_of(alloc, text.trim_start())
-}
-
-// The lines of a text, each without its newline.
-fn lines_of<'a>(alloc: Global, text: &'a str) -> std::result::Result<Vec<&'a str>, AllocError>
-    ensures { IfOk result (λ all. lines_at all.items ≡ lines text.now) }
-{
-    let mut all = Vec::with_capacity(alloc, text.lines().count())?;
-    for line in text.lines() {
-        all.push(line)?;
-    }
-    Ok(all)
+    lines_in(alloc, text.trim_start())
 }
 
 /// The lines after the first one, which begins the front matter.

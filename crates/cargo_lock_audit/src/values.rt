@@ -1,106 +1,18 @@
-//! The values of the table of an advisory, by their types.
+//! Lists of texts in the table of an advisory.
 
 ghost use Rattle.std.specs.Prelude.{◌≡◌, IfOk, option_map, string_bytes};
 ghost use Rattle.std.specs.Option.{option_copied};
 ghost use Rattle.toml.specs.Data.{get_member};
 ghost use Rattle.toml.specs.View.{items_view, table_view, view};
-ghost use Rattle.cargo_lock_parts.specs.Error.{IsParseOrMemory, Reads};
+ghost use Rattle.cargo_lock_parts.specs.Error.{Reads};
+ghost use Rattle.toml_fields.specs.Fields.{read_all, text_in};
 ghost use Rattle.cargo_lock_audit.specs.Texts.{bytes_of_texts};
-ghost use Rattle.cargo_lock_audit.specs.Values.{items_in, members_in, optional_text, read_all};
-ghost use Rattle.cargo_lock_audit.specs.Values.{required_members, required_text, text_in};
 ghost use Rattle.cargo_lock_audit.specs.Values.{texts_at_key, text_list_in};
 
-use cargo_lock_parts::error::{Error, Result};
+use cargo_lock_parts::error::Result;
 use std::alloc::{AllocError, Global};
 use toml::{Table, Value};
-
-/// The value at a key.
-pub(crate) fn value_at<'a>(table: &'a Table, key: &str) -> Option<&'a Value>
-    ensures { option_map (λ v. view v.now) result ≡ get_member key.now (table_view table.now) }
-{
-    table.get(key)
-}
-
-// The error for a key whose value has another type.
-fn wrong_type(alloc: Global, key: &str) -> Error
-    ensures { IsParseOrMemory result }
-{
-    Error::parse(format!(in alloc; "wrong type: `{key}`"))
-}
-
-// The error for a key that is missing.
-fn missing_key(alloc: Global, key: &str) -> Error
-    ensures { IsParseOrMemory result }
-{
-    Error::parse(format!(in alloc; "missing key: `{key}`"))
-}
-
-/// The text that a value is.
-pub(crate) fn text_in<'a>(alloc: Global, value: &'a Value, key: &str) -> Result<&'a str>
-    ensures { Reads (λ s. s.now) result (text_in (view value.now)) }
-{
-    match value.as_str() {
-        Some(text) => Ok(text),
-        None => Err(wrong_type(alloc, key)),
-    }
-}
-
-/// The table that a value is.
-pub(crate) fn members_in<'a>(alloc: Global, value: &'a Value, key: &str) -> Result<&'a Table>
-    ensures { Reads (λ m. table_view m.now) result (members_in (view value.now)) }
-{
-    match value.as_table() {
-        Some(table) => Ok(table),
-        None => Err(wrong_type(alloc, key)),
-    }
-}
-
-/// The list that a value is.
-pub(crate) fn list_in<'a>(alloc: Global, value: &'a Value, key: &str) -> Result<&'a [Value]>
-    ensures { Reads (λ s. items_view s.now) result (items_in (view value.now)) }
-{
-    match value.as_array() {
-        Some(list) => Ok(list.as_slice()),
-        None => Err(wrong_type(alloc, key)),
-    }
-}
-
-/// The text at a key.
-pub(crate) fn required_text<'a>(alloc: Global, table: &'a Table, key: &str) -> Result<&'a str>
-    ensures { Reads
-        (λ s. s.now) result (required_text (get_member key.now (table_view table.now))) }
-{
-    match value_at(table, key) {
-        Some(value) => text_in(alloc, value, key),
-        None => Err(missing_key(alloc, key)),
-    }
-}
-
-/// The table at a key.
-pub(crate) fn required_members<'a>(alloc: Global, table: &'a Table, key: &str) -> Result<&'a Table>
-    ensures { Reads (λ m. table_view m.now) result
-        (required_members (get_member key.now (table_view table.now))) }
-{
-    match value_at(table, key) {
-        Some(value) => members_in(alloc, value, key),
-        None => Err(missing_key(alloc, key)),
-    }
-}
-
-/// The text at a key, if the key is present.
-pub(crate) fn optional_text<'a>(
-    alloc: Global,
-    table: &'a Table,
-    key: &str,
-) -> Result<Option<&'a str>>
-    ensures { Reads (λ o. option_copied o) result
-        (optional_text (get_member key.now (table_view table.now))) }
-{
-    match value_at(table, key) {
-        Some(value) => Ok(Some(text_in(alloc, value, key)?)),
-        None => Ok(None),
-    }
-}
+use toml_fields::{list_in, text_in, value_at};
 
 /// The texts at a key, or none if the key is absent.
 pub(crate) fn texts_at_key(alloc: Global, table: &Table, key: &str) -> Result<Vec<String>>

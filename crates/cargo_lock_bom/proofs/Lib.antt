@@ -14,3 +14,4 @@ pub mod Ways
 pub mod ReachedNodes
 pub mod Tops
 pub mod Closed
+pub mod OwnBills

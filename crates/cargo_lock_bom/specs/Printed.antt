@@ -6,8 +6,9 @@ use Rattle.json.specs.Print.{print}
 use Rattle.cargo_lock_parts.specs.declared.error.Error.{Error}
 use Rattle.cargo_lock_parts.specs.Ascii.{newline}
 use Rattle.cargo_lock_parts.specs.Identity.{PackageData}
-use Rattle.cargo_lock_graph.specs.Edges.{Edge, GraphData}
-use Rattle.cargo_lock_graph.specs.Targets.{AreEdgesOf, IsUnresolved, links}
+use Rattle.cargo_lock_graph.specs.Edges.{GraphData}
+use Rattle.cargo_lock_graph.specs.Targets.{IsUnresolved, links}
+use Rattle.cargo_lock_edges.specs.OwnGraph.{IsOwnGraph}
 use Rattle.cargo_lock_bom.specs.Document.{IsLaidOut, ReadsAsBill}
 use Rattle.cargo_lock_bom.specs.Options.{OptionsData, within}
 use Rattle.cargo_lock_bom.specs.References.{IsRepeatedFault}
@@ -20,19 +21,14 @@ bill_packages packages root = packages ++ option_to_list root
 abbrev pub own_root : List PackageData → Option PackageData → Option ℕ
 own_root packages root = option_map (λ p. length packages) root
 
--- the graph of packages with these edges
-abbrev pub graph_with : List PackageData → List Edge → GraphData
-graph_with packages edges = record { packages = packages; edges = edges }
-
--- The line is a text that reads as the bill of some packages and of their edges, and a newline. The
--- text is in one line if it is compact, and otherwise laid out in lines.
+-- The line is a text that reads as the bill of the graph of packages, as their dependencies lead, and
+-- a newline. The text is in one line if it is compact, and otherwise laid out in lines.
 pub record IsPrintedBill (packages : List PackageData) (options : OptionsData) (compact : Bool)
     (line : List ℕ) : Type 0 where
-  pub edges : List Edge
+  pub graph : GraphData
   pub text : List ℕ
-  pub are_edges : AreEdgesOf packages edges
-  pub reads : ReadsAsBill (graph_with packages edges)
-      (within (graph_with packages edges) options) text
+  pub is_graph : IsOwnGraph packages graph
+  pub reads : ReadsAsBill graph (within graph options) text
   pub layout : IsLaidOut (cond compact print pretty) text
   pub ended : line ≡ text ++ newline ∷ []
 

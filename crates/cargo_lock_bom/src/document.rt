@@ -30,8 +30,7 @@ use serde_json::Value;
 use std::alloc::{AllocError, Global};
 
 /// The text of the bill of materials of a graph, with one member or item per line, indented: its
-/// packages, and for each package the packages on which it depends by the graph's edges. The graph
-/// of a lockfile is that of its tree.
+/// packages, and for each package the packages on which it depends by the graph's edges.
 ///
 /// The member `components` has a package of crates.io as `{"bom-ref":
 /// "registry+https://github.com/rust-lang/crates.io-index#serde@1.0.203", "hashes": [{"alg":

@@ -4,7 +4,6 @@ ghost use Rattle.std.specs.Prelude.{◌≡◌, ◌∷◌, ◌++◌, [], cond, If
 ghost use Rattle.json.specs.Layout.{pretty};
 ghost use Rattle.json.specs.Print.{print};
 ghost use Rattle.cargo_lock_parts.specs.Ascii.{newline};
-ghost use Rattle.cargo_lock_graph.specs.Targets.{AreEdgesOf, IsUnresolved, links};
 ghost use Rattle.cargo_lock_bom.specs.Document.{IsLaidOut, ReadsAsBill};
 ghost use Rattle.cargo_lock_bom.specs.Options.{within};
 ghost use Rattle.cargo_lock_bom.specs.Printed.{IsPrintedBill, IsUnprinted, bill_packages, own_root};
@@ -12,7 +11,7 @@ ghost use Rattle.cargo_lock_bom.specs.References.{IsRepeatedFault};
 
 use crate::document::{compact_text, pretty_text};
 use crate::options::Options;
-use cargo_lock_graph::building::graph_from;
+use cargo_lock_edges::own_graph;
 use cargo_lock_graph::graph::{Graph, NodeIndex};
 use cargo_lock_parts::{Package, Result};
 use std::alloc::{AllocError, Global};
@@ -37,7 +36,8 @@ pub fn with_root(
 }
 
 /// The text of the bill of materials of packages and a newline. The text is in one line if
-/// `is_compact` is true.
+/// `is_compact` is true. A package depends on those to which its dependencies lead in this project's
+/// own commands: on the package of their own words first, and on what replaces a package.
 ///
 /// `Resolution` names the first dependency that no package matches, and `Parse` means that two
 /// packages have the same `bom-ref`, as for `document`. The other error is `Memory`.
@@ -51,26 +51,10 @@ pub fn printed_bill(
         IsPrintedBill packages.now.items «options».now is_compact (string_bytes line)) }
     ensures err { IfErr result (IsUnprinted packages.now.items) }
 {
-    let graph = graph_alone(alloc, packages)?;
+    let graph = own_graph(alloc, packages)?;
     let text = text_of(alloc, &graph, options, is_compact)?;
     let line = with_newline(text)?;
     Ok(line)
-}
-
-// The graph of packages, without the map of their nodes.
-fn graph_alone(alloc: Global, packages: &Vec<Package>) -> Result<Graph>
-    ensures packages { IfOk result (λ graph. graph.packages ≡ packages.now.items) }
-    ensures edges { IfOk result (λ graph. AreEdgesOf packages.now.items graph.edges) }
-    ensures err { IfErr result (λ e. IsUnresolved packages.now.items (links packages.now.items) e) }
-{
-    let packages = copied(packages)?;
-    graph_from(alloc, packages)
-}
-
-fn copied(packages: &Vec<Package>) -> std::result::Result<Vec<Package>, AllocError>
-    ensures { IfOk result (λ copy. copy.items ≡ packages.now.items) }
-{
-    packages.clone()
 }
 
 // The text of the bill of materials of a graph.

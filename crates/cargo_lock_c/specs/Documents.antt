@@ -9,7 +9,7 @@ use Rattle.cargo_lock_query.specs.Spec.{SpecFits}
 use Rattle.cargo_lock_query.specs.Tally.{AreGroupsOf, GroupData}
 use Rattle.cargo_lock_parts.specs.Ascii.{newline}
 use Rattle.cargo_lock_graph.specs.Edges.{GraphData}
-use Rattle.cargo_lock_graph.specs.Targets.{AreEdgesOf}
+use Rattle.cargo_lock_edges.specs.OwnGraph.{IsOwnGraph}
 use Rattle.cargo_lock_json.specs.Document.{IsDocumentOf}
 use Rattle.cargo_lock_encoding.specs.Lockfiles.{LockfileData}
 use Rattle.cargo_lock_encoding.specs.Means.{TextMeans}
@@ -26,11 +26,6 @@ file_without_path l = record { path = None; format = l.version }
 abbrev pub IsLine : (List ℕ → Type 0) → List ℕ → Type 0
 IsLine Holds bytes = (text : List ℕ) × Holds text × (bytes ≡ text ++ newline ∷ [])
 
--- the graph is that of the lockfile
-pub record IsGraphOf (l : LockfileData) (graph : GraphData) : Type 0 where
-  pub packages : graph.packages ≡ l.packages
-  pub edges : AreEdgesOf l.packages graph.edges
-
 -- ---- why
 
 -- The bytes are the document of why packages of a graph are there: those that the specification
@@ -39,15 +34,16 @@ pub record IsWhyOf (l : LockfileData) (graph : GraphData) (spec : List ℕ) (is_
     (bytes : List ℕ) : Type 0 where
   pub nodes : List ℕ
   pub answers : List AnswerData
-  pub fitting : IsPlaces (SpecFits spec graph.packages) (length graph.packages) nodes
+  pub fitting : IsPlaces (SpecFits spec l.packages) (length l.packages) nodes
   pub some : nodes ≢ []
   pub answered : AreAnswers is_each graph nodes answers
   pub printed : IsLine (IsJsonText (answers_json (file_without_path l) answers)) bytes
 
--- the text is that of a lockfile, and these bytes are that document of its graph
+-- the text is that of a lockfile, and these bytes are that document of its graph, as dependencies
+-- lead
 abbrev pub IsWhyText : List ℕ → (spec : List ℕ) → (is_each : Bool) → List ℕ → Type 0
 IsWhyText text spec is_each bytes = (l : LockfileData) × (graph : GraphData) × TextMeans text l
-    × IsGraphOf l graph × IsWhyOf l graph spec is_each bytes
+    × IsOwnGraph l.packages graph × IsWhyOf l graph spec is_each bytes
 
 -- the text is that of a lockfile, and the specification fits none of its packages
 abbrev pub FitsNone : List ℕ → (spec : List ℕ) → Type 0
@@ -61,10 +57,11 @@ abbrev pub IsDuplicatesOf : LockfileData → GraphData → List ℕ → Type 0
 IsDuplicatesOf l graph bytes = (groups : List GroupData) × AreGroupsOf graph groups
     × IsLine (IsJsonText (groups_json (file_without_path l) groups)) bytes
 
--- the text is that of a lockfile, and these bytes are that document of its graph
+-- the text is that of a lockfile, and these bytes are that document of its graph, as dependencies
+-- lead
 abbrev pub IsDuplicatesText : List ℕ → List ℕ → Type 0
 IsDuplicatesText text bytes = (l : LockfileData) × (graph : GraphData) × TextMeans text l
-    × IsGraphOf l graph × IsDuplicatesOf l graph bytes
+    × IsOwnGraph l.packages graph × IsDuplicatesOf l graph bytes
 
 -- ---- lockfiles
 

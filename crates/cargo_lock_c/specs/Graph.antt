@@ -1,5 +1,5 @@
--- The graph of a lockfile's packages, as callers get it: edges, and the drawing of a package's
--- tree.
+-- The graph of a lockfile's packages, as callers get it: edges, as dependencies lead in this
+-- project's own commands, and the drawing of a package's tree.
 use Rattle.std.specs.Prelude.{◌≡◌, ◌<◌, ◌≤◌, ℕ, Bool, List, length, map}
 use Rattle.std.specs.List.{flat_map, range_with_len}
 use Rattle.cargo_lock_parts.specs.Identity.{Identity}
@@ -11,6 +11,7 @@ use Rattle.cargo_lock_graph.specs.DrawingText.{drawing_text, standard_symbols}
 use Rattle.cargo_lock_graph.specs.Edges.{Edge, edges_at, far_ends}
 use Rattle.cargo_lock_graph.specs.Labels.{label_at}
 use Rattle.cargo_lock_graph.specs.Targets.{AreEdgesOf, IsFirstLost, links}
+use Rattle.cargo_lock_edges.specs.OwnGraph.{AreOwnEdges}
 use Rattle.cargo_lock_encoding.specs.Lockfiles.{LockfileData}
 use Rattle.cargo_lock_encoding.specs.Means.{TextMeans}
 use Rattle.cargo_lock_c.specs.declared.edges.Edge.{Edge as CallersEdge}
@@ -27,7 +28,7 @@ edge_list edges count = flat_map (node_edges edges) (range_with_len 0 count)
 -- the text is that of a lockfile, and these are the edges of its graph, node by node
 abbrev pub IsEdgeList : List ℕ → List CallersEdge → Type 0
 IsEdgeList text listed = (l : LockfileData) × (edges : List Edge) × TextMeans text l
-    × AreEdgesOf l.packages edges × (listed ≡ edge_list edges (length l.packages))
+    × AreOwnEdges l.packages edges × (listed ≡ edge_list edges (length l.packages))
 
 -- the text is that of a lockfile, and no package matches some dependency
 abbrev pub IsUnresolvedText : List ℕ → Type 0

@@ -16,7 +16,7 @@ use crate::document::{file_of, line_of};
 use crate::handing::hand_out;
 use crate::reading::read;
 use crate::refusal::Refusal;
-use crate::tree::tree_of;
+use crate::tree::graph_of;
 use cargo_lock::Lockfile;
 use cargo_lock::dependency::graph::Graph;
 use cargo_lock_query::{Listing, groups_json};
@@ -53,8 +53,8 @@ fn names(alloc: Global, bytes: &[u8]) -> Result<String, Refusal>
     ensures kind { IfErr result (λ refusal. (status_of refusal ≤ 3) ⊎ (status_of refusal ≡ 7)) }
 {
     let lockfile = read(alloc, bytes)?;
-    let tree = tree_of(alloc, &lockfile)?;
-    let names = names_of(alloc, &lockfile, tree.graph())?;
+    let graph = graph_of(alloc, &lockfile)?;
+    let names = names_of(alloc, &lockfile, &graph)?;
     Ok(names)
 }
 

@@ -10,7 +10,7 @@ ghost use Rattle.cargo_lock_c.specs.Texts.{RefusesText};
 use crate::handing::hand_out;
 use crate::reading::read;
 use crate::refusal::Refusal;
-use crate::tree::tree_of;
+use crate::tree::graph_of;
 use cargo_lock::dependency::graph::{EdgeDirection, Graph, NodeIndex};
 use std::alloc::Global;
 
@@ -23,9 +23,9 @@ pub struct Edge {
     to: usize,
 }
 
-/// The edges of a lockfile's graph: those of package 0 first, and for each package the newest
-/// first, which is that of its last dependency. `length` counts edges. Status 7 means that a
-/// dependency has no package.
+/// The edges of a lockfile's graph, as dependencies lead in this project's own commands: those of
+/// package 0 first, and for each package the newest first, which is that of its last dependency.
+/// `length` counts edges. Status 7 means that a dependency has no package.
 #[unsafe(no_mangle)]
 pub extern "C" fn cargo_lock_edges(
     alloc: Global,
@@ -54,8 +54,8 @@ fn edges(alloc: Global, bytes: &[u8]) -> Result<Vec<Edge>, Refusal>
     ensures kind { IfErr result (λ refusal. (status_of refusal ≤ 3) ⊎ (status_of refusal ≡ 7)) }
 {
     let lockfile = read(alloc, bytes)?;
-    let tree = tree_of(alloc, &lockfile)?;
-    let edges = edges_of(alloc, tree.graph())?;
+    let graph = graph_of(alloc, &lockfile)?;
+    let edges = edges_of(alloc, &graph)?;
     Ok(edges)
 }
 

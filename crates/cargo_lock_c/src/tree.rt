@@ -10,6 +10,7 @@ ghost use Rattle.cargo_lock_graph.specs.DrawingText.{drawing_text, standard_symb
 ghost use Rattle.cargo_lock_graph.specs.Edges.{far_ends};
 ghost use Rattle.cargo_lock_graph.specs.Labels.{label_at};
 ghost use Rattle.cargo_lock_graph.specs.Targets.{AreEdgesOf, IsFirstLost, links};
+ghost use Rattle.cargo_lock_edges.specs.OwnGraph.{IsOwnGraph};
 ghost use Rattle.cargo_lock_c.specs.declared.refusal.Refusal.TheVariants.{NoMemory, Unresolved};
 ghost use Rattle.cargo_lock_c.specs.Answers.{IsHandedOut};
 ghost use Rattle.cargo_lock_c.specs.Graph.{IsTreeText, IsUnresolvedText, LacksPackage};
@@ -21,7 +22,8 @@ use crate::reading::read;
 use crate::refusal::Refusal;
 use cargo_lock::Lockfile;
 use cargo_lock::dependency::Tree;
-use cargo_lock::dependency::graph::{EdgeDirection, NodeIndex};
+use cargo_lock::dependency::graph::{EdgeDirection, Graph, NodeIndex};
+use cargo_lock_edges::own_graph;
 use std::alloc::Global;
 
 /// The drawing of the tree of a package, by its number in the lockfile's order: of what it depends
@@ -47,20 +49,9 @@ pub extern "C" fn cargo_lock_tree(
     ensures status { (result ≤ 3) ⊎ (result ≡ 5) ⊎ (result ≡ 7) ⊎ (result ≡ 8) }
 {
     let node = NodeIndex::new(number);
-    match drawing(alloc, text, node, direction(inverted), exact) {
+    match drawing(alloc, text, node, EdgeDirection::of_tree(inverted), exact) {
         Ok(drawing) => hand_out(drawing.as_slice(), out, length),
         Err(refusal) => refusal.status(),
-    }
-}
-
-/// The direction of the edges that are followed.
-fn direction(inverted: bool) -> EdgeDirection
-    ensures { result ≡ cond inverted Incoming Outgoing }
-{
-    if inverted {
-        EdgeDirection::Incoming
-    } else {
-        EdgeDirection::Outgoing
     }
 }
 
@@ -98,6 +89,18 @@ pub(crate) fn tree_of(alloc: Global, lockfile: &Lockfile) -> Result<Tree, Refusa
 {
     match lockfile.dependency_tree(alloc) {
         Ok(tree) => Ok(tree),
+        Err(fault) => Err(Refusal::from(fault)),
+    }
+}
+
+/// The graph of a lockfile's packages, as their dependencies lead in this project's own commands.
+pub(crate) fn graph_of(alloc: Global, lockfile: &Lockfile) -> Result<Graph, Refusal>
+    ensures ok { IfOk result (IsOwnGraph lockfile.now.packages) }
+    ensures err { IfErr result (λ refusal. (refusal ≡ NoMemory) ⊎ ((refusal ≡ Unresolved)
+        × (d : Identity) × IsFirstLost lockfile.now.packages (links lockfile.now.packages) d)) }
+{
+    match own_graph(alloc, lockfile.packages.as_slice()) {
+        Ok(graph) => Ok(graph),
         Err(fault) => Err(Refusal::from(fault)),
     }
 }

@@ -6,6 +6,7 @@ ghost use Rattle.cargo_lock_query.specs.Lines.{answer_of};
 ghost use Rattle.cargo_lock_query.specs.Spec.{SpecFits};
 ghost use Rattle.printing.specs.Json.{IsJsonText};
 ghost use Rattle.cargo_lock_query.specs.WhyDocument.{answers_json};
+ghost use Rattle.cargo_lock_edges.specs.OwnGraph.{IsOwnGraph};
 ghost use Rattle.cargo_lock_c.specs.declared.refusal.Refusal.TheVariants.{NoMemory, NothingFits};
 ghost use Rattle.cargo_lock_c.specs.Answers.{IsHandedOut};
 ghost use Rattle.cargo_lock_c.specs.Documents.{FitsNone, IsLine, IsWhyOf, IsWhyText};
@@ -18,7 +19,7 @@ use crate::document::{file_of, line_of};
 use crate::handing::hand_out;
 use crate::reading::read;
 use crate::refusal::Refusal;
-use crate::tree::tree_of;
+use crate::tree::graph_of;
 use cargo_lock::Lockfile;
 use cargo_lock::dependency::graph::Graph;
 use cargo_lock_query::{Answers, answers_json, fitting};
@@ -69,8 +70,8 @@ fn answers(alloc: Global, bytes: &[u8], spec: &str, all: bool) -> Result<String,
         ⊎ (status_of refusal ≡ 13)) }
 {
     let lockfile = read(alloc, bytes)?;
-    let tree = tree_of(alloc, &lockfile)?;
-    let answers = answers_of(alloc, &lockfile, tree.graph(), spec, all)?;
+    let graph = graph_of(alloc, &lockfile)?;
+    let answers = answers_of(alloc, &lockfile, &graph, spec, all)?;
     Ok(answers)
 }
 
@@ -82,7 +83,7 @@ fn answers_of(
     spec: &str,
     all: bool,
 ) -> Result<String, Refusal>
-    requires { lockfile.now.packages ≡ graph.now.packages }
+    requires { IsOwnGraph lockfile.now.packages graph.now }
     ensures ok { IfOk result (λ answers. IsWhyOf lockfile.now graph.now spec.now all
         (string_bytes answers)) }
     ensures err { IfErr result (λ refusal. (refusal ≡ NoMemory) ⊎ ((refusal ≡ NothingFits)

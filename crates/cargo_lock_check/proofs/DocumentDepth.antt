@@ -1,32 +1,11 @@
 -- The depth of the document of findings.
-use Rattle.std.proofs.Common.{◌≤◌, List, None, arith}
+use Rattle.std.proofs.Common.{◌≤◌, ℕ, List, None, Option, arith}
 use Rattle.json.specs.Tree.{depth}
 use Rattle.cargo_lock_check.specs.Finding.{Alike, BadName, LockfileFindingData, LookAlike, LossySource, LostDependency, Misplaced, MisplacedDependency, NoChecksum, NoChecksums, NoRoot, NotKept, Orphan, OtherLine, RepeatedDependency, Respelt, StaleChecksum, Twice, UserInfo}
 use Rattle.cargo_lock_parts.specs.Identity.{identity_of}
-use Rattle.cargo_lock_display.specs.File.{FileData}
-use Rattle.cargo_lock_check.specs.Document.{findings_json, line_json, lockfile_finding_json, lockfile_finding_package, other_json}
+use Rattle.cargo_lock_check.specs.Document.{lockfile_finding_json, lockfile_finding_package, other_json}
 use Rattle.cargo_lock_display.proofs.Depth.{identity-depth, package-depth}
-use Rattle.printing.proofs.Depth.{array-depth, text-depth}
-
-line-depth : (f : LockfileFindingData) → depth (line_json f) ≤ 0
-line-depth (OtherLine line) = omega arith
-line-depth (LostDependency p d) = omega arith
-line-depth (Twice p) = omega arith
-line-depth (RepeatedDependency p d) = omega arith
-line-depth (BadName p) = omega arith
-line-depth (Alike p q) = omega arith
-line-depth (LookAlike source) = omega arith
-line-depth (Respelt source) = omega arith
-line-depth (UserInfo source) = omega arith
-line-depth NoRoot = omega arith
-line-depth (Orphan p) = omega arith
-line-depth (NoChecksum p) = omega arith
-line-depth (NoChecksums source) = omega arith
-line-depth (StaleChecksum key) = omega arith
-line-depth (Misplaced p next) = omega arith
-line-depth (MisplacedDependency p d next) = omega arith
-line-depth (LossySource version text) = omega arith
-line-depth (NotKept version) = omega arith
+use Rattle.cargo_lock_location.proofs.LineDepth.{line-depth}
 
 other-depth : (f : LockfileFindingData) → depth (other_json f) ≤ 3
 other-depth (LostDependency p d) = identity-depth d None
@@ -48,6 +27,6 @@ other-depth (LossySource version text) = omega arith
 other-depth (NotKept version) = omega arith
 other-depth (OtherLine line) = omega arith
 
-pub finding-depth : (f : LockfileFindingData) → depth (lockfile_finding_json f) ≤ 4
+pub finding-depth : (line : Option ℕ) (f : LockfileFindingData) → depth (lockfile_finding_json line f) ≤ 4
 unfolding lockfile_finding_json
-finding-depth f = omega (arith, line-depth f, package-depth (lockfile_finding_package f), other-depth f)
+finding-depth line f = omega (arith, line-depth line, package-depth (lockfile_finding_package f), other-depth f)

@@ -15,7 +15,7 @@ use Rattle.cargo_lock.specs.CargoChecksums.{cargo_checksum, with_checksum}
 use Rattle.std.proofs.lemmas.List.{length-map}
 use Rattle.cargo_lock_flaws.specs.Dependencies.{AreDependencies, HoldsAt, HoldsOfDependency, IsDependencyMisplacedAt, IsRepeatedAt, IsSameDependency}
 use Rattle.cargo_lock_check.specs.Finding.{Alike, BadName, LockfileFindingData, LookAlike, LossySource, LostDependency, Misplaced, MisplacedDependency, NoChecksum, NoChecksums, NoRoot, Orphan, OtherLine, RepeatedDependency, Respelt, StaleChecksum, Twice, UserInfo}
-use Rattle.cargo_lock_check.specs.Findings.{AreFindings, AreLossy, FindingsData, HasNoFindings, HasNothingMisleading, IsSourceLostIn, IsOther, IsOtherLine, IsWrittenByCargo, alike_at, checked_packages, dependency_at, misplaced_at, misplaced_dependency_at, flawed_at, source_finding_at, told_of, told_of_checksums, told_of_format, told_of_formats, told_of_misleading, told_of_order, told_of_orphans, told_of_twice, with_next}
+use Rattle.cargo_lock_check.specs.Findings.{AreFindings, AreLossy, FindingsData, HasNoFindings, HasNothingMisleading, IsSourceLostIn, IsOther, IsOtherLine, IsWrittenByCargo, PlacedFindingData, alike_at, checked_packages, dependency_at, found_at_place, found_nowhere, misplaced_at, misplaced_dependency_at, flawed_at, placed_told, source_finding_at, told_of_checksums, told_of_format, told_of_formats, told_of_misleading, told_of_order, told_of_orphans, told_of_twice, with_next}
 use Rattle.cargo_lock_flaws.specs.Alike.{AreAlikeAt, ArePairsAlike, IsFirstAlike}
 use Rattle.cargo_lock_flaws.specs.Lost.{IsLostAt}
 use Rattle.cargo_lock_flaws.specs.Names.{IsBadlyNamed}
@@ -153,7 +153,7 @@ filter_map-none {X} {Y} h (x ∷ xs) there e = go (h x) refl e
 some-package : (finding : PackageData → LockfileFindingData) (packages : List PackageData) (k : ℕ) → k < length packages → ¬ (flawed_at finding packages k ≡ None)
 some-package finding (p ∷ ps) k lt none = go (slice_get (p ∷ ps) k) (slice_get-get_or (p ∷ ps) k p lt) none
   where
-    go : (o : Option PackageData) → {q : PackageData} → o ≡ Some q → option_map finding o ≡ None → ⊥
+    go : (o : Option PackageData) → {q : PackageData} → o ≡ Some q → option_map (λ (x : PackageData). found_at_place k (finding x)) o ≡ None → ⊥
     go None e n = cc e
     go (Some q) e n = cc n
 some-package finding [] k lt none = absurd (omega (arith, lt))
@@ -162,8 +162,9 @@ dependency-there : (finding : PackageData → Identity → LockfileFindingData) 
     → HoldsAt (λ ds at. HoldsOfDependency (λ d. Q d ds at) ds at) packages k.0 k.1 → ¬ (dependency_at finding packages k ≡ None)
 dependency-there finding Q packages k h none =
     let p : PackageData = h.0 in
-    let named : PackageData → Option LockfileFindingData = λ q. option_map (finding q) (slice_get q.dependencies k.1) in
-    let is : dependency_at finding packages k ≡ Some (finding p h.2.0) = ap (option_and_then named) h.1 ∙ ap (option_map (finding p)) h.2.1 in
+    let named : PackageData → Option PlacedFindingData = λ q. option_map (λ (d : Identity). found_at_place k.0 (finding q d)) (slice_get q.dependencies k.1) in
+    let is : dependency_at finding packages k ≡ Some (found_at_place k.0 (finding p h.2.0)) =
+    ap (option_and_then named) h.1 ∙ ap (option_map (λ (d : Identity). found_at_place k.0 (finding p d))) h.2.1 in
     cc (is, none)
 
 misplaced-dependency-there : (packages : List PackageData) (k : ℕ × ℕ) → IsDependencyMisplacedAt packages k.0 k.1 → ¬ (misplaced_dependency_at packages k ≡ None)
@@ -171,30 +172,34 @@ misplaced-dependency-there packages k h none =
     let p : PackageData = h.0 in
     let d : Identity = h.2.0 in
     let after = h.2.2 in
-    let named : PackageData → Option LockfileFindingData = λ q. option_and_then (with_next q k.1) (slice_get q.dependencies k.1) in
-    let is : misplaced_dependency_at packages k ≡ Some (MisplacedDependency p d after.0) =
-    ap (option_and_then named) h.1 ∙ ap (option_and_then (with_next p k.1)) h.2.1 ∙ ap (option_map (MisplacedDependency p d)) after.1 in
+    let named : PackageData → Option PlacedFindingData = λ q. option_and_then (with_next k.0 q k.1) (slice_get q.dependencies k.1) in
+    let is : misplaced_dependency_at packages k ≡ Some (found_at_place k.0 (MisplacedDependency p d after.0)) =
+    ap (option_and_then named) h.1 ∙ ap (option_and_then (with_next k.0 p k.1)) h.2.1
+    ∙ ap (option_map (λ (next : Identity). found_at_place k.0 (MisplacedDependency p d next))) after.1 in
     cc (is, none)
 
 misplaced-there : (packages : List PackageData) (k : ℕ) → IsMisplaced packages k → ¬ (misplaced_at packages k ≡ None)
 misplaced-there packages k h none =
     let p : PackageData = h.0 in
-    let named : PackageData → Option LockfileFindingData = λ q. option_map (Misplaced q) (slice_get packages (suc k)) in
-    let is : misplaced_at packages k ≡ Some (Misplaced p h.2.0) = ap (option_and_then named) h.1 ∙ ap (option_map (Misplaced p)) h.2.1 in
+    let named : PackageData → Option PlacedFindingData = λ q. option_map (λ (next : PackageData). found_at_place k (Misplaced q next)) (slice_get packages (suc k)) in
+    let is : misplaced_at packages k ≡ Some (found_at_place k (Misplaced p h.2.0)) =
+    ap (option_and_then named) h.1 ∙ ap (option_map (λ (next : PackageData). found_at_place k (Misplaced p next))) h.2.1 in
     cc (is, none)
 
 alike-there : (packages : List PackageData) (k : ℕ × ℕ) → AreAlikeAt packages k.0 k.1 → ¬ (alike_at packages k ≡ None)
 alike-there packages k h none =
     let p : PackageData = h.2.0 in
-    let named : PackageData → Option LockfileFindingData = λ q. option_map (Alike q) (slice_get packages k.1) in
-    let is : alike_at packages k ≡ Some (Alike p h.0) = ap (option_and_then named) h.2.1 ∙ ap (option_map (Alike p)) h.1 in
+    let named : PackageData → Option PlacedFindingData = λ q. option_map (λ (other : PackageData). found_at_place k.0 (Alike q other)) (slice_get packages k.1) in
+    let is : alike_at packages k ≡ Some (found_at_place k.0 (Alike p h.0)) =
+    ap (option_and_then named) h.2.1 ∙ ap (option_map (λ (other : PackageData). found_at_place k.0 (Alike p other))) h.1 in
     cc (is, none)
 
 source-there : (P : Source → Type 0) (finding : Source → LockfileFindingData) (packages : List PackageData) (k : ℕ) → IsFromAt P packages k → ¬ (source_finding_at finding packages k ≡ None)
 source-there P finding packages k h none =
     let from : IsFrom P h.0 = h.2 in
-    let named : PackageData → Option LockfileFindingData = λ q. option_map finding q.source in
-    let is : source_finding_at finding packages k ≡ Some (finding from.0) = ap (option_and_then named) h.1 ∙ ap (option_map finding) from.1 in
+    let found : Source → PlacedFindingData = λ source. found_at_place k (finding source) in
+    let named : PackageData → Option PlacedFindingData = λ q. option_map found q.source in
+    let is : source_finding_at finding packages k ≡ Some (found from.0) = ap (option_and_then named) h.1 ∙ ap (option_map found) from.1 in
     cc (is, none)
 
 own-some : (replace : Option Identity) (source : Option Source) (s : Source) → source_unless replace source ≡ Some s → source ≡ Some s
@@ -202,11 +207,11 @@ own-some None source s h = h
 own-some (Some other) source s h = cc h
 
 -- a package has its source whatever its checksum is
-same-source : (l : LockfileData) (o : Option PackageData)
-    → option_and_then (λ (q : PackageData). option_map NoChecksums q.source) (option_map (λ (q : PackageData). with_checksum (cargo_checksum l.version l.metadata q) q) o)
-    ≡ option_and_then (λ (q : PackageData). option_map NoChecksums q.source) o
-same-source l None = refl
-same-source l (Some q) = refl
+same-source : (found : Source → PlacedFindingData) (l : LockfileData) (o : Option PackageData)
+    → option_and_then (λ (q : PackageData). option_map found q.source) (option_map (λ (q : PackageData). with_checksum (cargo_checksum l.version l.metadata q) q) o)
+    ≡ option_and_then (λ (q : PackageData). option_map found q.source) o
+same-source found l None = refl
+same-source found l (Some q) = refl
 
 -- a package from a registry without checksums has a source
 unchecked-there : (l : LockfileData) (k : ℕ) → IsUnchecked (checked_packages l) k → ¬ (source_finding_at NoChecksums l.packages k ≡ None)
@@ -215,12 +220,13 @@ unchecked-there l k h none =
     let p : PackageData = h.0 in
     let f : PackageData → PackageData = λ q. with_checksum (cargo_checksum l.version l.metadata q) q in
     let from : p.source ≡ Some first.source = own-some p.replace p.source first.source first.from in
-    let named : PackageData → Option LockfileFindingData = λ q. option_map NoChecksums q.source in
+    let found : Source → PlacedFindingData = λ source. found_at_place k (NoChecksums source) in
+    let named : PackageData → Option PlacedFindingData = λ q. option_map found q.source in
     let mapped : slice_get (checked_packages l) k ≡ option_map f (slice_get l.packages k) = slice_get-map f l.packages k in
     let same : option_and_then named (slice_get (checked_packages l) k) ≡ source_finding_at NoChecksums l.packages k =
-    ap (option_and_then named) mapped ∙ same-source l (slice_get l.packages k) in
-    let is : option_and_then named (slice_get (checked_packages l) k) ≡ Some (NoChecksums first.source) =
-    ap (option_and_then named) h.1 ∙ ap (option_map NoChecksums) from in
+    ap (option_and_then named) mapped ∙ same-source found l (slice_get l.packages k) in
+    let is : option_and_then named (slice_get (checked_packages l) k) ≡ Some (found first.source) =
+    ap (option_and_then named) h.1 ∙ ap (option_map found) from in
     cc (same, is, none)
 
 sources-none : (P : Source → Type 0) (finding : Source → LockfileFindingData) (packages : List PackageData) (places : List ℕ) → IsPlaces (IsFromAt P packages) (length packages) places
@@ -239,7 +245,7 @@ orphans-none : (root : Option PackageData) (has_workspace : Bool) (packages : Li
 orphans-none root true packages places is e = told-none (IsOrphan packages root) Orphan packages places is e
 orphans-none root false packages [] is e = refl
 orphans-none root false packages (k ∷ ks) is e =
-    let one : NoRoot ∷ [] ≡ [] = sym (ap (λ b. cond b [] (NoRoot ∷ [])) (ne_eqb (length (k ∷ ks)) 0 (λ z. omega (arith, z)))) ∙ e in
+    let one : found_nowhere NoRoot ∷ [] ≡ [] = sym (ap (λ b. cond b [] (found_nowhere NoRoot ∷ [])) (ne_eqb (length (k ∷ ks)) 0 (λ z. omega (arith, z)))) ∙ e in
     cc one
 
 no-orphans : (has_workspace : Bool) (packages : List PackageData) → told_of_orphans has_workspace packages [] ≡ []
@@ -250,11 +256,11 @@ format-none : (b : Bool) (version : ResolveVersion) → told_of_format b version
 format-none true version e = refl
 format-none false version e = cc e
 
-line-none : (o : Option OtherLineData) → option_to_list (option_map OtherLine o) ≡ [] → o ≡ None
+line-none : (o : Option OtherLineData) → option_to_list (option_map (λ (line : OtherLineData). found_nowhere (OtherLine line)) o) ≡ [] → o ≡ None
 line-none None e = refl
 line-none (Some o) e = cc e
 
-told-nothing : (text : List ℕ) (l : LockfileData) (f : FindingsData) → AreFindings text l f → told_of f ≡ [] → HasNoFindings f
+told-nothing : (text : List ℕ) (l : LockfileData) (f : FindingsData) → AreFindings text l f → placed_told f ≡ [] → HasNoFindings f
 told-nothing text l f is e =
     let here : f.packages ≡ l.packages = is.packages in
     let e1 = append-none (filter_map (dependency_at LostDependency f.packages) f.lost_dependencies) _ e in
@@ -268,12 +274,12 @@ told-nothing text l f is e =
     let e3 = append-none (told_of_orphans f.has_workspace f.packages f.orphans) _ m.1 in
     let e4 = append-none (told_of_checksums f) _ e3.1 in
     let u = append-none (filter_map (flawed_at NoChecksum f.packages) f.without_checksum) _ e4.0 in
-    let e5 = append-none (map StaleChecksum f.stale) _ e4.1 in
+    let e5 = append-none (map (λ key. found_nowhere (StaleChecksum key)) f.stale) _ e4.1 in
     let e6 = append-none (told_of_order f) _ e5.1 in
     let o = append-none (filter_map (misplaced_at f.packages) f.misplaced) _ e6.0 in
     let e7 = append-none (told_of_formats f) _ e6.1 in
-    let v = append-none (map (LossySource f.version) f.lossy) _ e7.0 in
-    let none : f.lossy ≡ [] = map-none (LossySource f.version) f.lossy v.0 in
+    let v = append-none (map (λ source. found_nowhere (LossySource f.version source)) f.lossy) _ e7.0 in
+    let none : f.lossy ≡ [] = map-none (λ source. found_nowhere (LossySource f.version source)) f.lossy v.0 in
     record {
       lossy = none;
       lost_dependencies = filter_map-none (dependency_at LostDependency l.packages) f.lost_dependencies
@@ -298,7 +304,7 @@ told-nothing text l f is e =
           (subst (λ ps. filter_map (flawed_at NoChecksum ps) f.without_checksum ≡ []) here u.0);
       unchecked = filter_map-none (source_finding_at NoChecksums l.packages) f.unchecked
           (λ k c. unchecked-there l k ((is.unchecked.listed k).0 c).1) (subst (λ ps. filter_map (source_finding_at NoChecksums ps) f.unchecked ≡ []) here u.1);
-      stale = map-none StaleChecksum f.stale e5.0;
+      stale = map-none (λ key. found_nowhere (StaleChecksum key)) f.stale e5.0;
       misplaced = filter_map-none (misplaced_at l.packages) f.misplaced
           (λ k c. misplaced-there l.packages k ((is.misplaced.listed k).0 c).1) (subst (λ ps. filter_map (misplaced_at ps) f.misplaced ≡ []) here o.0);
       misplaced_dependencies = filter_map-none (misplaced_dependency_at l.packages) f.misplaced_dependencies
@@ -308,7 +314,7 @@ told-nothing text l f is e =
       other_line = line-none f.other_line e7.1;
     }
 
-nothing-told : (f : FindingsData) → HasNoFindings f → told_of f ≡ []
+nothing-told : (f : FindingsData) → HasNoFindings f → placed_told f ≡ []
 nothing-told f e =
     (λ i. filter_map (dependency_at LostDependency f.packages) (e.lost_dependencies i)
     ++ ((filter_map (flawed_at Twice f.packages) (e.twice i)
@@ -321,12 +327,15 @@ nothing-told f e =
     ++ (told_of_orphans f.has_workspace f.packages (e.orphans i)
     ++ ((filter_map (flawed_at NoChecksum f.packages) (e.without_checksum i)
     ++ filter_map (source_finding_at NoChecksums f.packages) (e.unchecked i))
-    ++ (map StaleChecksum (e.stale i)
+    ++ (map (λ key. found_nowhere (StaleChecksum key)) (e.stale i)
     ++ ((filter_map (misplaced_at f.packages) (e.misplaced i)
     ++ filter_map (misplaced_dependency_at f.packages) (e.misplaced_dependencies i))
-    ++ ((map (LossySource f.version) (e.lossy i) ++ told_of_format (e.is_kept i) f.version)
-    ++ option_to_list (option_map OtherLine (e.other_line i))))))))))
+    ++ ((map (λ source. found_nowhere (LossySource f.version source)) (e.lossy i) ++ told_of_format (e.is_kept i) f.version)
+    ++ option_to_list (option_map (λ line. found_nowhere (OtherLine line)) (e.other_line i))))))))))
     ∙ ap (λ fs. fs ++ []) (no-orphans f.has_workspace f.packages)
 
 pub none_told_if_empty : NoneToldIfEmpty
-none_told_if_empty text l f is = (told-nothing text l f is, nothing-told f)
+none_told_if_empty text l f is = (
+  λ e. told-nothing text l f is (map-none (λ (x : PlacedFindingData). x.finding) (placed_told f) e),
+  λ e. ap (map (λ (x : PlacedFindingData). x.finding)) (nothing-told f e),
+)

@@ -18,12 +18,14 @@ use Rattle.cargo_lock_check.specs.Finding.{LossySource, LostDependency, Misplace
 use Rattle.cargo_lock_check.specs.Finding.{MisplacedDependency, NoChecksum, NoChecksums, NoRoot}
 use Rattle.cargo_lock_check.specs.Finding.{NotKept, Orphan, OtherLine, RepeatedDependency}
 use Rattle.cargo_lock_check.specs.Finding.{Respelt, StaleChecksum, Twice, UserInfo}
+use Rattle.cargo_lock_check.specs.Finding.{lockfile_finding_of}
 use Rattle.cargo_lock_check.specs.declared.findings.DependencyFlaw.{DependencyFlaw}
 use Rattle.cargo_lock_check.specs.declared.findings.DependencyFlaw.TheVariants as dependency_flaw
 use Rattle.cargo_lock_check.specs.declared.findings.Flaw.{Flaw}
 use Rattle.cargo_lock_check.specs.declared.findings.Flaw.TheVariants as flaw
 use Rattle.cargo_lock_check.specs.declared.findings.SourceFlaw.{SourceFlaw}
 use Rattle.cargo_lock_check.specs.declared.findings.SourceFlaw.TheVariants as source_flaw
+use Rattle.cargo_lock_check.specs.declared.placed.PlacedFinding.{PlacedFinding}
 use Rattle.cargo_lock_flaws.specs.Alike.{ArePairsAlike}
 use Rattle.cargo_lock_flaws.specs.Dependencies.{AreDependencies, IsDependencyMisplacedAt}
 use Rattle.cargo_lock_flaws.specs.Dependencies.{IsRepeatedAt}
@@ -206,6 +208,23 @@ pub record HasNoFindings (f : FindingsData) : Type 0 where
 
 -- ---- what is reported, in this order
 
+-- a finding, and the place of the package at which it is found, if it is found at one
+pub record PlacedFindingData : Type 0 where
+  pub place : Option ℕ
+  pub finding : LockfileFindingData
+
+-- the data of a finding with its place of the program
+abbrev pub placed_finding_of : PlacedFinding → PlacedFindingData
+placed_finding_of x = record { place = x.place; finding = lockfile_finding_of x.finding }
+
+-- the finding at a place
+abbrev pub found_at_place : ℕ → LockfileFindingData → PlacedFindingData
+found_at_place k finding = record { place = Some k; finding = finding }
+
+-- a finding of no package
+abbrev pub found_nowhere : LockfileFindingData → PlacedFindingData
+found_nowhere finding = record { place = None; finding = finding }
+
 -- the finding of a dependency with a flaw
 abbrev pub dependency_finding_by : DependencyFlaw → PackageData → Identity → LockfileFindingData
 dependency_finding_by dependency_flaw.Lost = LostDependency
@@ -213,18 +232,21 @@ dependency_finding_by dependency_flaw.Repeated = RepeatedDependency
 
 -- the dependency at a place of the package at a place
 abbrev pub dependency_at : (PackageData → Identity → LockfileFindingData) → List PackageData → ℕ × ℕ
-    → Option LockfileFindingData
+    → Option PlacedFindingData
 dependency_at finding packages k = option_and_then
-    (λ p. option_map (finding p) (slice_get p.dependencies k.1)) (slice_get packages k.0)
+    (λ p. option_map (λ d. found_at_place k.0 (finding p d)) (slice_get p.dependencies k.1))
+    (slice_get packages k.0)
 
--- the dependency at a place of a package, and the next one
-abbrev pub with_next : PackageData → ℕ → Identity → Option LockfileFindingData
-with_next p at d = option_map (MisplacedDependency p d) (slice_get p.dependencies (suc at))
+-- the dependency at a place of a package, which has this place, and the next one
+abbrev pub with_next : ℕ → PackageData → ℕ → Identity → Option PlacedFindingData
+with_next k p at d = option_map (λ next. found_at_place k (MisplacedDependency p d next))
+    (slice_get p.dependencies (suc at))
 
 -- the finding of the dependency at a place of the package at a place, and the next one
-abbrev pub misplaced_dependency_at : List PackageData → ℕ × ℕ → Option LockfileFindingData
+abbrev pub misplaced_dependency_at : List PackageData → ℕ × ℕ → Option PlacedFindingData
 misplaced_dependency_at packages k = option_and_then
-    (λ p. option_and_then (with_next p k.1) (slice_get p.dependencies k.1)) (slice_get packages k.0)
+    (λ p. option_and_then (with_next k.0 p k.1) (slice_get p.dependencies k.1))
+    (slice_get packages k.0)
 
 -- the finding of a package with a flaw
 abbrev pub finding_by : Flaw → PackageData → LockfileFindingData
@@ -235,13 +257,15 @@ finding_by flaw.NoChecksum = NoChecksum
 
 -- the package at a place
 abbrev pub flawed_at : (PackageData → LockfileFindingData) → List PackageData → ℕ
-    → Option LockfileFindingData
-flawed_at finding packages k = option_map finding (slice_get packages k)
+    → Option PlacedFindingData
+flawed_at finding packages k =
+    option_map (λ p. found_at_place k (finding p)) (slice_get packages k)
 
--- the packages at two places
-abbrev pub alike_at : List PackageData → ℕ × ℕ → Option LockfileFindingData
+-- the packages at two places, of which the first counts
+abbrev pub alike_at : List PackageData → ℕ × ℕ → Option PlacedFindingData
 alike_at packages k = option_and_then
-    (λ p. option_map (Alike p) (slice_get packages k.1)) (slice_get packages k.0)
+    (λ p. option_map (λ q. found_at_place k.0 (Alike p q)) (slice_get packages k.1))
+    (slice_get packages k.0)
 
 -- the finding of a source with a flaw
 abbrev pub source_finding_by : SourceFlaw → Source → LockfileFindingData
@@ -252,30 +276,31 @@ source_finding_by source_flaw.Unchecked = NoChecksums
 
 -- the source of the package at a place
 abbrev pub source_finding_at : (Source → LockfileFindingData) → List PackageData → ℕ
-    → Option LockfileFindingData
+    → Option PlacedFindingData
 source_finding_at finding packages k = option_and_then
-    (λ p. option_map finding p.source) (slice_get packages k)
+    (λ p. option_map (λ source. found_at_place k (finding source)) p.source) (slice_get packages k)
 
 -- the package at a place and the next one
-abbrev pub misplaced_at : List PackageData → ℕ → Option LockfileFindingData
+abbrev pub misplaced_at : List PackageData → ℕ → Option PlacedFindingData
 misplaced_at packages k = option_and_then
-    (λ p. option_map (Misplaced p) (slice_get packages (suc k))) (slice_get packages k)
+    (λ p. option_map (λ next. found_at_place k (Misplaced p next)) (slice_get packages (suc k)))
+    (slice_get packages k)
 
 -- one finding for all orphans
-abbrev pub no_root : List ℕ → List LockfileFindingData
-no_root orphans = if length orphans == 0 then [] else NoRoot ∷ []
+abbrev pub no_root : List ℕ → List PlacedFindingData
+no_root orphans = if length orphans == 0 then [] else found_nowhere NoRoot ∷ []
 
 -- each orphan, or, if no package is of the workspace, that alone
-abbrev pub told_of_orphans : Bool → List PackageData → List ℕ → List LockfileFindingData
+abbrev pub told_of_orphans : Bool → List PackageData → List ℕ → List PlacedFindingData
 told_of_orphans has_workspace packages orphans = if has_workspace
     then filter_map (flawed_at Orphan packages) orphans else no_root orphans
 
 -- a format that does not keep its lockfile
-abbrev pub told_of_format : Bool → ResolveVersion → List LockfileFindingData
-told_of_format is_kept version = if is_kept then [] else NotKept version ∷ []
+abbrev pub told_of_format : Bool → ResolveVersion → List PlacedFindingData
+told_of_format is_kept version = if is_kept then [] else found_nowhere (NotKept version) ∷ []
 
 -- each name and each source that may mislead a reader
-abbrev pub told_of_misleading : FindingsData → List LockfileFindingData
+abbrev pub told_of_misleading : FindingsData → List PlacedFindingData
 told_of_misleading f = filter_map (flawed_at BadName f.packages) f.badly_named
     ++ (filter_map (alike_at f.packages) f.alike
     ++ (filter_map (source_finding_at LookAlike f.packages) f.look_alikes
@@ -283,32 +308,37 @@ told_of_misleading f = filter_map (flawed_at BadName f.packages) f.badly_named
     ++ filter_map (source_finding_at UserInfo f.packages) f.with_user_info)))
 
 -- each package and each dependency that is listed more than once
-abbrev pub told_of_twice : FindingsData → List LockfileFindingData
+abbrev pub told_of_twice : FindingsData → List PlacedFindingData
 told_of_twice f = filter_map (flawed_at Twice f.packages) f.twice
     ++ filter_map (dependency_at RepeatedDependency f.packages) f.repeated
 
 -- each package without a checksum, and each registry without any
-abbrev pub told_of_checksums : FindingsData → List LockfileFindingData
+abbrev pub told_of_checksums : FindingsData → List PlacedFindingData
 told_of_checksums f = filter_map (flawed_at NoChecksum f.packages) f.without_checksum
     ++ filter_map (source_finding_at NoChecksums f.packages) f.unchecked
 
 -- each package and each dependency that is out of order
-abbrev pub told_of_order : FindingsData → List LockfileFindingData
+abbrev pub told_of_order : FindingsData → List PlacedFindingData
 told_of_order f = filter_map (misplaced_at f.packages) f.misplaced
     ++ filter_map (misplaced_dependency_at f.packages) f.misplaced_dependencies
 
 -- each source that the format loses, and a format that does not keep its lockfile
-abbrev pub told_of_formats : FindingsData → List LockfileFindingData
-told_of_formats f = map (LossySource f.version) f.lossy ++ told_of_format f.is_kept f.version
+abbrev pub told_of_formats : FindingsData → List PlacedFindingData
+told_of_formats f = map (λ source. found_nowhere (LossySource f.version source)) f.lossy
+    ++ told_of_format f.is_kept f.version
 
--- each finding
-abbrev pub told_of : FindingsData → List LockfileFindingData
-told_of f = filter_map (dependency_at LostDependency f.packages) f.lost_dependencies
+-- each finding, with its place
+abbrev pub placed_told : FindingsData → List PlacedFindingData
+placed_told f = filter_map (dependency_at LostDependency f.packages) f.lost_dependencies
     ++ (told_of_twice f
     ++ (told_of_misleading f
     ++ (told_of_orphans f.has_workspace f.packages f.orphans
     ++ (told_of_checksums f
-    ++ (map StaleChecksum f.stale
+    ++ (map (λ key. found_nowhere (StaleChecksum key)) f.stale
     ++ (told_of_order f
     ++ (told_of_formats f
-    ++ option_to_list (option_map OtherLine f.other_line))))))))
+    ++ option_to_list (option_map (λ line. found_nowhere (OtherLine line)) f.other_line))))))))
+
+-- each finding
+abbrev pub told_of : FindingsData → List LockfileFindingData
+told_of f = map (λ x. x.finding) (placed_told f)

@@ -3,3 +3,4 @@ pub mod Finding
 pub mod Findings
 pub mod Sound
 pub mod Document
+pub mod Reporting

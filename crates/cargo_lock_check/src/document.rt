@@ -1,63 +1,70 @@
 //! What is wrong with a lockfile, as a document of JSON.
 
 ghost use Rattle.std.specs.Prelude.{◌≡◌, ◌∷◌, IfOk, codes, map, option_map, string_bytes};
-ghost use Rattle.json.specs.Token.{begin_object, key, number};
+ghost use Rattle.json.specs.Token.{key};
 ghost use Rattle.json.specs.Tree.{json_tokens};
 ghost use Rattle.cargo_lock_check.specs.Finding.{lockfile_finding_of};
-ghost use Rattle.cargo_lock_check.specs.Document.{line_json, lockfile_finding_json};
+ghost use Rattle.cargo_lock_check.specs.Document.{lockfile_finding_json};
 ghost use Rattle.cargo_lock_check.specs.Document.{lockfile_finding_kind, lockfile_finding_package};
 ghost use Rattle.cargo_lock_check.specs.Document.{other_json};
 ghost use Rattle.cargo_lock_check.specs.Document as spec;
+ghost use Rattle.cargo_lock_check.specs.Findings.{placed_finding_of};
 ghost use Rattle.printing.specs.Json.{Adds, IsJsonText};
 
 use crate::finding::Finding;
+use crate::placed::PlacedFinding;
 use cargo_lock_display::{File, list_document, put_dependency, put_package, put_package_or_null};
+use cargo_lock_location::{PackageLines, locate, put_line};
 use cargo_lock_parts::package::Package;
-use printing::{JsonWriter, ToJson};
+use printing::JsonWriter;
 use std::alloc::{AllocError, Global};
 
 /// The document of what is wrong with a lockfile, in one line:
-/// `{"schema":"cargo-lock-check/1","path":"Cargo.lock","format":4,"findings":[..]}`. Fails when out
-/// of memory.
+/// `{"schema":"cargo-lock-check/1","path":"Cargo.lock","format":4,"findings":[..]}`. The findings are
+/// at these lines of its packages. Fails when out of memory.
 ///
 /// ```
 /// let file = File {
 ///     path: Some("Cargo.lock"),
 ///     format: lockfile.version,
 /// };
-/// let all = findings.all(rt.alloc())?;
-/// let text = findings_json(rt.alloc(), &file, all.as_slice())?;
+/// let placed = findings.placed(rt.alloc())?;
+/// let text = findings_json(rt.alloc(), &file, placed.as_slice(), lines)?;
 /// ```
 pub fn findings_json(
     alloc: Global,
     file: &File<'_>,
-    findings: &[Finding<'_>],
+    findings: &[PlacedFinding<'_>],
+    lines: &PackageLines<'_>,
 ) -> Result<String, AllocError>
     ensures { IfOk result (λ text. IsJsonText
-        (spec.findings_json file.now (map lockfile_finding_of findings.now)) (string_bytes text)) }
+        (spec.findings_json file.now lines.now (map placed_finding_of findings.now))
+        (string_bytes text)) }
 {
-    list_document(alloc, "cargo-lock-check/1", file, "findings", findings)
+    let located = locate(alloc, findings, lines)?;
+    list_document(alloc, "cargo-lock-check/1", file, "findings", &located)
 }
 
-impl ToJson for Finding<'_> {
-    ghost use Rattle.cargo_lock_check.specs.Finding.{lockfile_finding_of};
-    ghost use Rattle.cargo_lock_check.specs.Document.{lockfile_finding_json};
-
-    ghost json = { λ finding. lockfile_finding_json (lockfile_finding_of finding) };
-
-    fn write_json(&self, out: &mut JsonWriter) -> Result<(), AllocError> {
-        out.begin_object()?;
-        out.string_member("kind", kind(self))?;
-        out.displayed_member("message", self)?;
-        put_line(out, self)?;
-        put_package_or_null(out, "package", package(self))?;
-        put_other(out, self)?;
-        out.end_object()
-    }
+/// Writes a finding at a line.
+pub(crate) fn write_finding(
+    finding: &Finding<'_>,
+    line: Option<usize>,
+    out: &mut JsonWriter,
+) -> Result<(), AllocError>
+    ensures { Adds result out.old out.new
+        (json_tokens (lockfile_finding_json line (lockfile_finding_of finding.now))) }
+{
+    out.begin_object()?;
+    out.string_member("kind", kind(finding))?;
+    out.displayed_member("message", finding)?;
+    put_line(out, line)?;
+    put_package_or_null(out, "package", package(finding))?;
+    put_other(out, finding)?;
+    out.end_object()
 }
 
 // The kind of a finding, as the document has it.
-fn kind(finding: &Finding<'_>) -> &'static str
+pub(crate) fn kind(finding: &Finding<'_>) -> &'static str
     ensures { result.now ≡ lockfile_finding_kind (lockfile_finding_of finding.now) }
 {
     match finding {
@@ -83,7 +90,7 @@ fn kind(finding: &Finding<'_>) -> &'static str
 }
 
 // The package to which a finding refers; of two packages, the first.
-fn package<'a>(finding: &Finding<'a>) -> Option<&'a Package>
+pub(crate) fn package<'a>(finding: &Finding<'a>) -> Option<&'a Package>
     ensures { option_map (λ p. p.now) result
         ≡ lockfile_finding_package (lockfile_finding_of finding.now) }
 {
@@ -98,17 +105,6 @@ fn package<'a>(finding: &Finding<'a>) -> Option<&'a Package>
         | Finding::Misplaced(one, _)
         | Finding::MisplacedDependency(one, _, _) => Some(one),
         _ => None,
-    }
-}
-
-// Writes the member with the number of a line.
-fn put_line(out: &mut JsonWriter, finding: &Finding<'_>) -> Result<(), AllocError>
-    ensures { Adds result out.old out.new (key (codes "line")
-        ∷ json_tokens (line_json (lockfile_finding_of finding.now))) }
-{
-    match finding {
-        Finding::OtherLine(line) => out.number_member("line", line.number as u64),
-        _ => out.null_member("line"),
     }
 }
 

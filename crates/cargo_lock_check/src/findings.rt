@@ -10,6 +10,7 @@ ghost use Rattle.cargo_lock_check.specs.Findings.{AreFindings, alike_at, depende
 ghost use Rattle.cargo_lock_check.specs.Findings.{dependency_finding_by, finding_by, has_workspace};
 ghost use Rattle.cargo_lock_check.specs.Findings.{is_bare_root, misplaced_at};
 ghost use Rattle.cargo_lock_check.specs.Findings.{misplaced_dependency_at, no_root, flawed_at};
+ghost use Rattle.cargo_lock_check.specs.Findings.{found_nowhere, placed_finding_of};
 ghost use Rattle.cargo_lock_check.specs.Findings.{source_finding_at, source_finding_by};
 ghost use Rattle.cargo_lock_check.specs.Findings.{told_of_format, told_of_orphans};
 ghost use Rattle.cargo_lock_flaws.specs.Alike.{ArePairsAlike};
@@ -22,6 +23,7 @@ ghost use Rattle.cargo_lock_flaws.specs.Sources.{HasUserInfo, IsFromAt, IsLookAl
 
 use crate::asked::TextFindings;
 use crate::finding::Finding;
+use crate::placed::PlacedFinding;
 use crate::text::OtherLine;
 use cargo_lock::Lockfile;
 use cargo_lock_flaws::{
@@ -172,7 +174,7 @@ struct ListPlaces {
 }
 
 impl<'a> Findings<'a> {
-    ghost use Rattle.cargo_lock_check.specs.Findings.{HasNoFindings, HasNothingMisleading, told_of, told_of_checksums, told_of_formats, told_of_misleading, told_of_order, told_of_twice};
+    ghost use Rattle.cargo_lock_check.specs.Findings.{HasNoFindings, HasNothingMisleading, placed_told, told_of, told_of_checksums, told_of_formats, told_of_misleading, told_of_order, told_of_twice};
 
     /// What is wrong with a lockfile that was read from this text. The one error is `Memory`.
     pub fn of(alloc: Global, text: &str, lockfile: &'a Lockfile) -> Result<Findings<'a>>
@@ -250,6 +252,22 @@ impl<'a> Findings<'a> {
     pub fn all<'s>(&'s self, alloc: Global) -> std::result::Result<Vec<Finding<'s>>, AllocError>
         ensures { IfOk result (λ all. map lockfile_finding_of all.items ≡ told_of self.now) }
     {
+        let placed = self.placed(alloc)?;
+        let mut all = Vec::with_capacity(alloc, placed.len())?;
+        for one in &placed {
+            all.push(one.finding)?;
+        }
+        Ok(all)
+    }
+
+    /// The same findings, each with the place of the package at which it is found. Fails when out of
+    /// memory.
+    pub fn placed<'s>(
+        &'s self,
+        alloc: Global,
+    ) -> std::result::Result<Vec<PlacedFinding<'s>>, AllocError>
+        ensures { IfOk result (λ all. map placed_finding_of all.items ≡ placed_told self.now) }
+    {
         let mut all = Vec::new(alloc);
         add_dependencies(
             &mut all,
@@ -269,9 +287,12 @@ impl<'a> Findings<'a> {
     }
 
     // Adds the packages and the dependencies that are listed more than once.
-    fn add_twice<'s>(&'s self, all: &mut Vec<Finding<'s>>) -> std::result::Result<(), AllocError>
-        ensures { OnOk result (map lockfile_finding_of all.new.items
-            ≡ map lockfile_finding_of all.old.items ++ told_of_twice self.now) }
+    fn add_twice<'s>(
+        &'s self,
+        all: &mut Vec<PlacedFinding<'s>>,
+    ) -> std::result::Result<(), AllocError>
+        ensures { OnOk result (map placed_finding_of all.new.items
+            ≡ map placed_finding_of all.old.items ++ told_of_twice self.now) }
     {
         add_flawed(all, self.packages, &self.twice, Flaw::Twice)?;
         add_dependencies(all, self.packages, &self.repeated, DependencyFlaw::Repeated)?;
@@ -281,10 +302,10 @@ impl<'a> Findings<'a> {
     // Adds the packages without a checksum, and the registries without any.
     fn add_checksums<'s>(
         &'s self,
-        all: &mut Vec<Finding<'s>>,
+        all: &mut Vec<PlacedFinding<'s>>,
     ) -> std::result::Result<(), AllocError>
-        ensures { OnOk result (map lockfile_finding_of all.new.items
-            ≡ map lockfile_finding_of all.old.items ++ told_of_checksums self.now) }
+        ensures { OnOk result (map placed_finding_of all.new.items
+            ≡ map placed_finding_of all.old.items ++ told_of_checksums self.now) }
     {
         add_flawed(all, self.packages, &self.without_checksum, Flaw::NoChecksum)?;
         add_sources(all, self.packages, &self.unchecked, SourceFlaw::Unchecked)?;
@@ -292,9 +313,12 @@ impl<'a> Findings<'a> {
     }
 
     // Adds the packages and the dependencies that are out of order.
-    fn add_order<'s>(&'s self, all: &mut Vec<Finding<'s>>) -> std::result::Result<(), AllocError>
-        ensures { OnOk result (map lockfile_finding_of all.new.items
-            ≡ map lockfile_finding_of all.old.items ++ told_of_order self.now) }
+    fn add_order<'s>(
+        &'s self,
+        all: &mut Vec<PlacedFinding<'s>>,
+    ) -> std::result::Result<(), AllocError>
+        ensures { OnOk result (map placed_finding_of all.new.items
+            ≡ map placed_finding_of all.old.items ++ told_of_order self.now) }
     {
         add_misplaced(all, self.packages, &self.misplaced)?;
         add_misplaced_dependencies(all, self.packages, &self.misplaced_dependencies)?;
@@ -302,9 +326,12 @@ impl<'a> Findings<'a> {
     }
 
     // Adds the sources that the format loses, and that it does not keep the lockfile.
-    fn add_formats<'s>(&'s self, all: &mut Vec<Finding<'s>>) -> std::result::Result<(), AllocError>
-        ensures { OnOk result (map lockfile_finding_of all.new.items
-            ≡ map lockfile_finding_of all.old.items ++ told_of_formats self.now) }
+    fn add_formats<'s>(
+        &'s self,
+        all: &mut Vec<PlacedFinding<'s>>,
+    ) -> std::result::Result<(), AllocError>
+        ensures { OnOk result (map placed_finding_of all.new.items
+            ≡ map placed_finding_of all.old.items ++ told_of_formats self.now) }
     {
         add_lossy(all, &self.lossy, self.version)?;
         add_format(all, self.is_kept, self.version)?;
@@ -314,10 +341,10 @@ impl<'a> Findings<'a> {
     // Adds the names and the sources that may mislead a reader.
     fn add_misleading<'s>(
         &'s self,
-        all: &mut Vec<Finding<'s>>,
+        all: &mut Vec<PlacedFinding<'s>>,
     ) -> std::result::Result<(), AllocError>
-        ensures { OnOk result (map lockfile_finding_of all.new.items
-            ≡ map lockfile_finding_of all.old.items ++ told_of_misleading self.now) }
+        ensures { OnOk result (map placed_finding_of all.new.items
+            ≡ map placed_finding_of all.old.items ++ told_of_misleading self.now) }
     {
         add_flawed(all, self.packages, &self.badly_named, Flaw::BadName)?;
         add_alike(all, self.packages, &self.alike)?;
@@ -387,12 +414,12 @@ impl MisleadingPlaces {
 }
 
 fn add_some<'a>(
-    all: &mut Vec<Finding<'a>>,
-    finding: Option<Finding<'a>>,
+    all: &mut Vec<PlacedFinding<'a>>,
+    finding: Option<PlacedFinding<'a>>,
 ) -> std::result::Result<(), AllocError>
-    ensures { OnOk result (map lockfile_finding_of all.new.items
-        ≡ map lockfile_finding_of all.old.items
-        ++ option_to_list (option_map lockfile_finding_of finding.entry)) }
+    ensures { OnOk result (map placed_finding_of all.new.items
+        ≡ map placed_finding_of all.old.items
+        ++ option_to_list (option_map placed_finding_of finding.entry)) }
 {
     if let Some(finding) = finding {
         all.push(finding)?;
@@ -412,13 +439,13 @@ enum DependencyFlaw {
 
 // Adds a finding with this flaw for the dependency at each of these places.
 fn add_dependencies<'a>(
-    all: &mut Vec<Finding<'a>>,
+    all: &mut Vec<PlacedFinding<'a>>,
     packages: &'a [Package],
     places: &[(usize, usize)],
     flaw: DependencyFlaw,
 ) -> std::result::Result<(), AllocError>
-    ensures { OnOk result (map lockfile_finding_of all.new.items
-        ≡ map lockfile_finding_of all.old.items ++ filter_map
+    ensures { OnOk result (map placed_finding_of all.new.items
+        ≡ map placed_finding_of all.old.items ++ filter_map
         (dependency_at (dependency_finding_by flaw) packages.now) places.now) }
 {
     for (place, at) in places {
@@ -432,16 +459,17 @@ fn flawed_dependency<'a>(
     place: usize,
     at: usize,
     flaw: DependencyFlaw,
-) -> Option<Finding<'a>>
-    ensures { option_map lockfile_finding_of result
+) -> Option<PlacedFinding<'a>>
+    ensures { option_map placed_finding_of result
         ≡ dependency_at (dependency_finding_by flaw) packages.now (place, at) }
 {
     let one = packages.get(place)?;
     let dependency = one.dependencies.get(at)?;
-    Some(match flaw {
+    let finding = match flaw {
         DependencyFlaw::Lost => Finding::LostDependency(one, dependency),
         DependencyFlaw::Repeated => Finding::RepeatedDependency(one, dependency),
-    })
+    };
+    Some(PlacedFinding::at(place, finding))
 }
 
 // What may be wrong with a package.
@@ -462,13 +490,13 @@ enum Flaw {
 
 // Adds a finding with this flaw for the package at each of these places.
 fn add_flawed<'a>(
-    all: &mut Vec<Finding<'a>>,
+    all: &mut Vec<PlacedFinding<'a>>,
     packages: &'a [Package],
     places: &[usize],
     flaw: Flaw,
 ) -> std::result::Result<(), AllocError>
-    ensures { OnOk result (map lockfile_finding_of all.new.items
-        ≡ map lockfile_finding_of all.old.items ++ filter_map
+    ensures { OnOk result (map placed_finding_of all.new.items
+        ≡ map placed_finding_of all.old.items ++ filter_map
         (flawed_at (finding_by flaw) packages.now) places.now) }
 {
     for place in places {
@@ -477,27 +505,32 @@ fn add_flawed<'a>(
     Ok(())
 }
 
-fn flawed_package<'a>(packages: &'a [Package], place: usize, flaw: Flaw) -> Option<Finding<'a>>
-    ensures { option_map lockfile_finding_of result
+fn flawed_package<'a>(
+    packages: &'a [Package],
+    place: usize,
+    flaw: Flaw,
+) -> Option<PlacedFinding<'a>>
+    ensures { option_map placed_finding_of result
         ≡ flawed_at (finding_by flaw) packages.now place }
 {
     let package = packages.get(place)?;
-    Some(match flaw {
+    let finding = match flaw {
         Flaw::Twice => Finding::Twice(package),
         Flaw::BadName => Finding::BadName(package),
         Flaw::Orphan => Finding::Orphan(package),
         Flaw::NoChecksum => Finding::NoChecksum(package),
-    })
+    };
+    Some(PlacedFinding::at(place, finding))
 }
 
 // Adds a finding for each of these pairs of places.
 fn add_alike<'a>(
-    all: &mut Vec<Finding<'a>>,
+    all: &mut Vec<PlacedFinding<'a>>,
     packages: &'a [Package],
     pairs: &[(usize, usize)],
 ) -> std::result::Result<(), AllocError>
-    ensures { OnOk result (map lockfile_finding_of all.new.items
-        ≡ map lockfile_finding_of all.old.items ++ filter_map (alike_at packages.now) pairs.now) }
+    ensures { OnOk result (map placed_finding_of all.new.items
+        ≡ map placed_finding_of all.old.items ++ filter_map (alike_at packages.now) pairs.now) }
 {
     for (earlier, place) in pairs {
         add_some(all, alike_packages(packages, *earlier, *place))?;
@@ -505,12 +538,16 @@ fn add_alike<'a>(
     Ok(())
 }
 
-fn alike_packages<'a>(packages: &'a [Package], earlier: usize, place: usize) -> Option<Finding<'a>>
-    ensures { option_map lockfile_finding_of result ≡ alike_at packages.now (earlier, place) }
+fn alike_packages<'a>(
+    packages: &'a [Package],
+    earlier: usize,
+    place: usize,
+) -> Option<PlacedFinding<'a>>
+    ensures { option_map placed_finding_of result ≡ alike_at packages.now (earlier, place) }
 {
     let one = packages.get(earlier)?;
     let other = packages.get(place)?;
-    Some(Finding::Alike(one, other))
+    Some(PlacedFinding::at(earlier, Finding::Alike(one, other)))
 }
 
 // What may be wrong with a source.
@@ -531,13 +568,13 @@ enum SourceFlaw {
 
 // Adds a finding with this flaw for the source of the package at each of these places.
 fn add_sources<'a>(
-    all: &mut Vec<Finding<'a>>,
+    all: &mut Vec<PlacedFinding<'a>>,
     packages: &'a [Package],
     places: &[usize],
     flaw: SourceFlaw,
 ) -> std::result::Result<(), AllocError>
-    ensures { OnOk result (map lockfile_finding_of all.new.items
-        ≡ map lockfile_finding_of all.old.items ++ filter_map
+    ensures { OnOk result (map placed_finding_of all.new.items
+        ≡ map placed_finding_of all.old.items ++ filter_map
         (source_finding_at (source_finding_by flaw) packages.now) places.now) }
 {
     for place in places {
@@ -546,29 +583,34 @@ fn add_sources<'a>(
     Ok(())
 }
 
-fn flawed_source<'a>(packages: &'a [Package], place: usize, flaw: SourceFlaw) -> Option<Finding<'a>>
-    ensures { option_map lockfile_finding_of result
+fn flawed_source<'a>(
+    packages: &'a [Package],
+    place: usize,
+    flaw: SourceFlaw,
+) -> Option<PlacedFinding<'a>>
+    ensures { option_map placed_finding_of result
         ≡ source_finding_at (source_finding_by flaw) packages.now place }
 {
     let package = packages.get(place)?;
     let source = package.source.as_ref()?;
-    Some(match flaw {
+    let finding = match flaw {
         SourceFlaw::LookAlike => Finding::LookAlike(source),
         SourceFlaw::Respelt => Finding::Respelt(source),
         SourceFlaw::UserInfo => Finding::UserInfo(source),
         SourceFlaw::Unchecked => Finding::NoChecksums(source),
-    })
+    };
+    Some(PlacedFinding::at(place, finding))
 }
 
 // Adds the orphans at these places. If no package is of the workspace, adds that alone.
 fn add_orphans<'a>(
-    all: &mut Vec<Finding<'a>>,
+    all: &mut Vec<PlacedFinding<'a>>,
     has_workspace: bool,
     packages: &'a [Package],
     places: &[usize],
 ) -> std::result::Result<(), AllocError>
-    ensures { OnOk result (map lockfile_finding_of all.new.items
-        ≡ map lockfile_finding_of all.old.items
+    ensures { OnOk result (map placed_finding_of all.new.items
+        ≡ map placed_finding_of all.old.items
         ++ told_of_orphans has_workspace packages.now places.now) }
 {
     if has_workspace {
@@ -603,38 +645,42 @@ fn is_bare_root(root: &Option<Package>) -> bool
 }
 
 // Adds that no package is of the workspace, if there are orphans.
-fn add_no_root(all: &mut Vec<Finding<'_>>, orphans: &[usize]) -> std::result::Result<(), AllocError>
-    ensures { OnOk result (map lockfile_finding_of all.new.items
-        ≡ map lockfile_finding_of all.old.items ++ no_root orphans.now) }
+fn add_no_root(
+    all: &mut Vec<PlacedFinding<'_>>,
+    orphans: &[usize],
+) -> std::result::Result<(), AllocError>
+    ensures { OnOk result (map placed_finding_of all.new.items
+        ≡ map placed_finding_of all.old.items ++ no_root orphans.now) }
 {
     if !orphans.is_empty() {
-        all.push(Finding::NoRoot)?;
+        all.push(PlacedFinding::nowhere(Finding::NoRoot))?;
     }
     Ok(())
 }
 
 // Adds a finding for each of these keys.
 fn add_stale<'a>(
-    all: &mut Vec<Finding<'a>>,
+    all: &mut Vec<PlacedFinding<'a>>,
     keys: &'a [MetadataKey],
 ) -> std::result::Result<(), AllocError>
-    ensures { OnOk result (map lockfile_finding_of all.new.items
-        ≡ map lockfile_finding_of all.old.items ++ map told.StaleChecksum keys.now) }
+    ensures { OnOk result (map placed_finding_of all.new.items
+        ≡ map placed_finding_of all.old.items
+        ++ map (λ key. found_nowhere (told.StaleChecksum key)) keys.now) }
 {
     for key in keys {
-        all.push(Finding::StaleChecksum(key))?;
+        all.push(PlacedFinding::nowhere(Finding::StaleChecksum(key)))?;
     }
     Ok(())
 }
 
 // Adds a finding for each of these places, at which a package comes after the next one.
 fn add_misplaced<'a>(
-    all: &mut Vec<Finding<'a>>,
+    all: &mut Vec<PlacedFinding<'a>>,
     packages: &'a [Package],
     places: &[usize],
 ) -> std::result::Result<(), AllocError>
-    ensures { OnOk result (map lockfile_finding_of all.new.items
-        ≡ map lockfile_finding_of all.old.items
+    ensures { OnOk result (map placed_finding_of all.new.items
+        ≡ map placed_finding_of all.old.items
         ++ filter_map (misplaced_at packages.now) places.now) }
 {
     for place in places {
@@ -643,22 +689,22 @@ fn add_misplaced<'a>(
     Ok(())
 }
 
-fn misplaced_package<'a>(packages: &'a [Package], place: usize) -> Option<Finding<'a>>
-    ensures { option_map lockfile_finding_of result ≡ misplaced_at packages.now place }
+fn misplaced_package<'a>(packages: &'a [Package], place: usize) -> Option<PlacedFinding<'a>>
+    ensures { option_map placed_finding_of result ≡ misplaced_at packages.now place }
 {
     let one = packages.get(place)?;
     let next = packages.get(place + 1)?;
-    Some(Finding::Misplaced(one, next))
+    Some(PlacedFinding::at(place, Finding::Misplaced(one, next)))
 }
 
 // Adds a finding for each of these places, at which a dependency comes after the next one.
 fn add_misplaced_dependencies<'a>(
-    all: &mut Vec<Finding<'a>>,
+    all: &mut Vec<PlacedFinding<'a>>,
     packages: &'a [Package],
     places: &[(usize, usize)],
 ) -> std::result::Result<(), AllocError>
-    ensures { OnOk result (map lockfile_finding_of all.new.items
-        ≡ map lockfile_finding_of all.old.items ++ filter_map
+    ensures { OnOk result (map placed_finding_of all.new.items
+        ≡ map placed_finding_of all.old.items ++ filter_map
         (misplaced_dependency_at packages.now) places.now) }
 {
     for (place, at) in places {
@@ -667,52 +713,59 @@ fn add_misplaced_dependencies<'a>(
     Ok(())
 }
 
-fn misplaced_dependency<'a>(packages: &'a [Package], place: usize, at: usize) -> Option<Finding<'a>>
-    ensures { option_map lockfile_finding_of result
+fn misplaced_dependency<'a>(
+    packages: &'a [Package],
+    place: usize,
+    at: usize,
+) -> Option<PlacedFinding<'a>>
+    ensures { option_map placed_finding_of result
         ≡ misplaced_dependency_at packages.now (place, at) }
 {
     let one = packages.get(place)?;
     let dependency = one.dependencies.get(at)?;
     let next = one.dependencies.get(at + 1)?;
-    Some(Finding::MisplacedDependency(one, dependency, next))
+    Some(PlacedFinding::at(place, Finding::MisplacedDependency(one, dependency, next)))
 }
 
 // Adds a finding for each of these sources, which the format loses.
 fn add_lossy<'a>(
-    all: &mut Vec<Finding<'a>>,
+    all: &mut Vec<PlacedFinding<'a>>,
     sources: &'a [String],
     version: ResolveVersion,
 ) -> std::result::Result<(), AllocError>
-    ensures { OnOk result (map lockfile_finding_of all.new.items
-        ≡ map lockfile_finding_of all.old.items
-        ++ map (told.LossySource version) (map string_bytes sources.now)) }
+    ensures { OnOk result (map placed_finding_of all.new.items
+        ≡ map placed_finding_of all.old.items
+        ++ map (λ source. found_nowhere (told.LossySource version source))
+        (map string_bytes sources.now)) }
 {
     for source in sources {
-        all.push(Finding::LossySource(version, source.as_str()))?;
+        let finding = Finding::LossySource(version, source.as_str());
+        all.push(PlacedFinding::nowhere(finding))?;
     }
     Ok(())
 }
 
 // Adds that the format does not keep the lockfile, if it does not.
 fn add_format(
-    all: &mut Vec<Finding<'_>>,
+    all: &mut Vec<PlacedFinding<'_>>,
     is_kept: bool,
     version: ResolveVersion,
 ) -> std::result::Result<(), AllocError>
-    ensures { OnOk result (map lockfile_finding_of all.new.items
-        ≡ map lockfile_finding_of all.old.items ++ told_of_format is_kept version) }
+    ensures { OnOk result (map placed_finding_of all.new.items
+        ≡ map placed_finding_of all.old.items ++ told_of_format is_kept version) }
 {
     if !is_kept {
-        all.push(Finding::NotKept(version))?;
+        all.push(PlacedFinding::nowhere(Finding::NotKept(version)))?;
     }
     Ok(())
 }
 
-fn other_line_finding<'a>(line: &'a Option<OtherLine>) -> Option<Finding<'a>>
-    ensures { option_map lockfile_finding_of result ≡ option_map told.OtherLine line.now }
+fn other_line_finding<'a>(line: &'a Option<OtherLine>) -> Option<PlacedFinding<'a>>
+    ensures { option_map placed_finding_of result
+        ≡ option_map (λ l. found_nowhere (told.OtherLine l)) line.now }
 {
     match line {
-        Some(line) => Some(Finding::OtherLine(line)),
+        Some(line) => Some(PlacedFinding::nowhere(Finding::OtherLine(line))),
         None => None,
     }
 }

@@ -33,11 +33,15 @@ pub mod document;
 pub mod finding;
 pub mod findings;
 pub mod laws;
+pub mod placed;
+pub mod reporting;
 pub mod text;
 mod written;
 
 pub use crate::document::findings_json;
 pub use crate::finding::Finding;
 pub use crate::findings::Findings;
+pub use crate::placed::PlacedFinding;
+pub use crate::reporting::reported_findings;
 pub use crate::text::OtherLine;
 pub use cargo_lock_order::{dependency_order, package_order};

@@ -7,6 +7,7 @@ ghost use Rattle.std.specs.Str.Lines.{lines};
 ghost use Rattle.cargo_lock_check.specs.Text.{AreSameLines, IsFirstOther, are_empty, body_place, cargo_lines, compared_at, header, is_comment, is_unnumbered, line_or_empty, with_carets, with_carets_after};
 ghost use Rattle.cargo_lock.specs.Texts.{texts_at};
 
+use cargo_lock_location::lines_in;
 use std::alloc::{AllocError, Global};
 use std::marker::Model;
 
@@ -47,22 +48,11 @@ pub(crate) fn first_other_line<'a>(
         (AreSameLines (lines text.now) (cargo_lines (lines text.now) (lines printed.now)))
         (IsFirstOther (lines text.now) (cargo_lines (lines text.now) (lines printed.now)))) }
 {
-    let written = lines_of(alloc, text)?;
-    let printed = lines_of(alloc, printed)?;
+    let written = lines_in(alloc, text)?;
+    let printed = lines_in(alloc, printed)?;
     let wanted = cargo_lines(alloc, written.as_slice(), printed.as_slice())?;
     let other = first_other(alloc, written.as_slice(), wanted.as_slice())?;
     Ok(other)
-}
-
-// The lines of a text, each without its newline.
-fn lines_of<'a>(alloc: Global, text: &'a str) -> Result<Vec<&'a str>, AllocError>
-    ensures { IfOk result (λ all. texts_at all.items ≡ lines text.now) }
-{
-    let mut all = Vec::with_capacity(alloc, text.lines().count())?;
-    for line in text.lines() {
-        all.push(line)?;
-    }
-    Ok(all)
 }
 
 // The lines that Cargo writes.

@@ -12,7 +12,8 @@ use Rattle.cargo_lock_diff.specs.Change.{Moved, NewSource, NewSourceUpdate, Othe
 use Rattle.cargo_lock_diff.specs.Change.{Removed, Replaced, Updated, checksum_mark}
 use Rattle.cargo_lock_diff.specs.Change.{checksums_text, downgrade_mark, incompatible_mark}
 use Rattle.cargo_lock_diff.specs.Change.{is_downgrade}
-use Rattle.cargo_lock_diff.specs.Change.{is_of_registry, change_line_by, moved_sources, moved_package}
+use Rattle.cargo_lock_parts.specs.Source.{is_of_registry}
+use Rattle.cargo_lock_diff.specs.Change.{change_line_by, moved_sources, moved_package}
 use Rattle.cargo_lock_diff.specs.Change.{signed_text, signed_texts, sources_text}
 use Rattle.cargo_lock_diff.specs.Change.{updated_sources, updated_text}
 use Rattle.cargo_lock_diff.specs.declared.commits.Commits.{Commits}

@@ -7,7 +7,7 @@ use Rattle.std.specs.Ordering.{is_gt}
 use Rattle.std.specs.Str.Lines.{lines}
 use Rattle.cargo_lock_parts.specs.Ascii.{newline}
 use Rattle.cargo_lock_parts.specs.Identity.{Identity, PackageData}
-use Rattle.cargo_lock_parts.specs.Source.{Source, is_registry}
+use Rattle.cargo_lock_parts.specs.Source.{Source, is_of_registry}
 use Rattle.cargo_lock_diff.specs.declared.change.Aspect.{Aspect}
 use Rattle.cargo_lock_diff.specs.declared.change.Aspect.TheVariants as aspect
 use Rattle.cargo_lock_diff.specs.declared.change.Change.{Change}
@@ -167,11 +167,6 @@ incompatible_mark old new = if have_one_line old new then [] else codes " (incom
 -- the mark of a pair whose new version is less than the old one
 abbrev pub downgrade_mark : PackageData → PackageData → List ℕ
 downgrade_mark old new = if is_downgrade old new then codes " (downgrade)" else []
-
--- the package is from a registry
-abbrev pub is_of_registry : Option Source → Bool
-is_of_registry None = false
-is_of_registry (Some source) = is_registry source.kind
 
 -- the mark of a package of a registry that has no checksum
 abbrev pub checksum_mark : PackageData → List ℕ

@@ -5,11 +5,15 @@ use Rattle.json.specs.Json.{Json, array, boolean, number, string, object, member
 use Rattle.cargo_lock_parts.specs.Identity.{Identity, PackageData}
 use Rattle.cargo_lock_diff.specs.Change.{ChangeData, Alarm, NewSource, NewSourceUpdate, Moved}
 use Rattle.cargo_lock_diff.specs.Change.{Checksum, Replaced, Updated}
-use Rattle.cargo_lock_diff.specs.Change.{Removed, Added, OtherDependencies, is_downgrade}
+use Rattle.cargo_lock_diff.specs.Change.{Removed, Added, OtherDependencies, change_of, is_downgrade}
+use Rattle.cargo_lock_diff.specs.declared.change.Change.{Change}
 use Rattle.cargo_lock_diff.specs.Summary.{summary_of}
 use Rattle.cargo_lock_diff.specs.declared.summary.Summary.{Summary}
 use Rattle.cargo_lock_display.specs.File.{FileData, file_json}
 use Rattle.cargo_lock_display.specs.PackageJson.{dependency_json, package_or_null}
+use Rattle.cargo_lock_location.specs.Lines.{LinesData, line_of_some}
+use Rattle.cargo_lock_location.specs.Located.{line_or_null}
+use Rattle.cargo_lock_location.specs.declared.located.Located.{Located}
 use Rattle.printing.specs.Json.{items_of}
 
 -- ---- changes
@@ -78,15 +82,29 @@ added_of other = []
 abbrev pub dependencies_json : List Identity → Json
 dependencies_json ds = array (items_of (map dependency_json ds))
 
--- the JSON of a change
-unfoldable pub change_json : ChangeData → Json
-change_json c = object
+-- the number of the line of the new package of a change in the new lockfile, where there is one and
+-- it is known
+abbrev pub change_line_in : LinesData → ChangeData → Option ℕ
+change_line_in lines c = line_of_some lines (new_of c)
+
+-- the JSON of a change at a line of the new lockfile
+unfoldable pub change_json : Option ℕ → ChangeData → Json
+change_json line c = object
     (member (codes "kind") (string (change_kind_text c))
     (member (codes "alarm") (boolean (is_alarm_change c))
+    (member (codes "line") (line_or_null line)
     (member (codes "old") (package_or_null (old_of c))
     (member (codes "new") (package_or_null (new_of c))
     (member (codes "removed") (dependencies_json (removed_of c))
-    (member (codes "added") (dependencies_json (added_of c)) no_members))))))
+    (member (codes "added") (dependencies_json (added_of c)) no_members)))))))
+
+-- the JSON of a change of the program at its line
+abbrev pub located_change_json : Located Change → Json
+located_change_json l = change_json l.line (change_of l.found.now)
+
+-- the JSON of a change, by the lines of the new lockfile
+abbrev pub lined_change_json : LinesData → ChangeData → Json
+lined_change_json lines c = change_json (change_line_in lines c) c
 
 -- ---- the document
 
@@ -107,16 +125,18 @@ counts_json s = object
     (member (codes "added") (count_json s.added)
     (member (codes "dependencies") (count_json s.dependencies) no_members)))))))))
 
--- the document of two lockfiles, of how many changes of each kind there are, and of the changes
-unfoldable pub difference_document : FileData → FileData → Summary → List ChangeData → Json
+-- the document of two lockfiles, of how many changes of each kind there are, and of the changes, as
+-- they are in JSON
+unfoldable pub difference_document : FileData → FileData → Summary → List Json → Json
 difference_document old new summary changes = object
     (member (codes "schema") (string (codes "cargo-lock-diff/1"))
     (member (codes "old") (file_json old)
     (member (codes "new") (file_json new)
     (member (codes "alarm") (boolean (not (summary.alarms == 0)))
     (member (codes "counts") (counts_json summary)
-    (member (codes "changes") (array (items_of (map change_json changes))) no_members))))))
+    (member (codes "changes") (array (items_of changes)) no_members))))))
 
--- the changes between two lockfiles, each once and in order
-abbrev pub difference_json : FileData → FileData → List ChangeData → Json
-difference_json old new changes = difference_document old new (summary_of changes) changes
+-- the changes between two lockfiles, each once and in order, by the lines of the new one
+abbrev pub difference_json : FileData → FileData → LinesData → List ChangeData → Json
+difference_json old new lines changes =
+    difference_document old new (summary_of changes) (map (lined_change_json lines) changes)

@@ -15,21 +15,32 @@ use crate::change::Change;
 use crate::parts::is_downgrade;
 use crate::summary::Kind;
 use cargo_lock_display::{put_dependency, put_package_or_null};
+use cargo_lock_location::{Lined, PackageLines, put_line};
 use cargo_lock_parts::dependency::Dependency;
 use cargo_lock_parts::package::Package;
-use printing::{JsonWriter, ToJson};
+use printing::JsonWriter;
 use std::alloc::AllocError;
 
-impl ToJson for Change<'_> {
+impl Lined for Change<'_> {
     ghost use Rattle.cargo_lock_diff.specs.Change.{change_of};
-    ghost use Rattle.cargo_lock_diff.specs.Document.{change_json};
+    ghost use Rattle.cargo_lock_diff.specs.Document.{change_json, change_line_in};
 
-    ghost json = { λ change. change_json (change_of change) };
+    ghost line_in = { λ lines change. change_line_in lines (change_of change) };
 
-    fn write_json(&self, out: &mut JsonWriter) -> Result<(), AllocError> {
+    ghost json_at = { λ line change. change_json line (change_of change) };
+
+    fn line(&self, lines: &PackageLines<'_>) -> Option<usize> {
+        match new(self) {
+            Some(package) => lines.of(package),
+            None => None,
+        }
+    }
+
+    fn write_json_at(&self, line: Option<usize>, out: &mut JsonWriter) -> Result<(), AllocError> {
         out.begin_object()?;
         out.string_member("kind", kind(self))?;
         out.boolean_member("alarm", is_alarm(self))?;
+        put_line(out, line)?;
         put_package_or_null(out, "old", old(self))?;
         put_package_or_null(out, "new", new(self))?;
         put_removed(out, self)?;

@@ -13,7 +13,7 @@ ghost use Rattle.cargo_lock_diff.specs.Targets.{dependencies_cmp, pairs_cmp};
 
 use crate::place::cmp_named;
 use cargo_lock_parts::dependency::Dependency;
-use cargo_lock_parts::package::Package;
+use cargo_lock_parts::package::{Name, Package, SourceId, Version};
 use std::alloc::{AllocError, Global};
 use std::cmp::Ordering;
 use std::marker::Model;
@@ -170,42 +170,79 @@ fn is_among(package: &Package, others: &Vec<&Dependency>) -> bool
     }
 }
 
+// What a dependency and the package to which it leads have in common.
+#[derive(Drop)]
+struct Target<'a> {
+    name: &'a Name,
+    version: &'a Version,
+    source: &'a Option<SourceId>,
+}
+
+impl<'a> Model for Target<'a> {
+    ghost use Rattle.semver.specs.Identifiers.{parts_of};
+    ghost use Rattle.cargo_lock_parts.specs.Identity.{Identity};
+
+    ghost Value = { Identity };
+
+    ghost view = { λ t. record { name = t.name.now; version = parts_of t.version.now; source = t.source.now } };
+}
+
+fn target_of<'a>(package: &'a Package) -> Target<'a>
+    ensures { result ≡ identity_of «package».now }
+{
+    Target {
+        name: &package.name,
+        version: &package.version,
+        source: &package.source,
+    }
+}
+
+fn target_in<'a>(dependency: &'a Dependency) -> Target<'a>
+    ensures { result ≡ dependency.now }
+{
+    Target {
+        name: &dependency.name,
+        version: &dependency.version,
+        source: &dependency.source,
+    }
+}
+
+// The order of two targets by name, version and named source.
+fn cmp_targets(one: Target<'_>, other: Target<'_>) -> Ordering
+    ensures { result ≡ target_cmp one.entry other.entry }
+{
+    one.name
+        .cmp(other.name)
+        .then(one.version.cmp(other.version))
+        .then(cmp_named(one.source, other.source))
+}
+
 // The order of a package and a dependency by name, version and named source.
 fn cmp_target(package: &Package, dependency: &Dependency) -> Ordering
     ensures { result ≡ target_cmp (identity_of «package».now) dependency.now }
 {
-    package
-        .name
-        .cmp(&dependency.name)
-        .then(package.version.cmp(&dependency.version))
-        .then(cmp_named(&package.source, &dependency.source))
+    cmp_targets(target_of(package), target_in(dependency))
 }
 
 // The order of a dependency and a package.
 fn cmp_turned(dependency: &Dependency, package: &Package) -> Ordering
     ensures { result ≡ target_cmp dependency.now (identity_of «package».now) }
 {
-    cmp_target(package, dependency).reverse()
+    cmp_targets(target_in(dependency), target_of(package))
 }
 
 // The order of two packages by name, version and named source.
 fn cmp_packages(one: &Package, other: &Package) -> Ordering
     ensures { result ≡ target_cmp (identity_of one.now) (identity_of other.now) }
 {
-    one.name
-        .cmp(&other.name)
-        .then(one.version.cmp(&other.version))
-        .then(cmp_named(&one.source, &other.source))
+    cmp_targets(target_of(one), target_of(other))
 }
 
 // The order of two dependencies by name, version and named source.
 fn cmp_dependencies(one: &Dependency, other: &Dependency) -> Ordering
     ensures { result ≡ target_cmp one.now other.now }
 {
-    one.name
-        .cmp(&other.name)
-        .then(one.version.cmp(&other.version))
-        .then(cmp_named(&one.source, &other.source))
+    cmp_targets(target_in(one), target_in(other))
 }
 
 // The order of two pairs by the names, versions and named sources of their packages.

@@ -4,19 +4,21 @@ ghost use Rattle.std.specs.Prelude.{◌∷◌, IfOk, codes, map, string_bytes};
 ghost use Rattle.json.specs.Token.{key};
 ghost use Rattle.json.specs.Tree.{json_tokens};
 ghost use Rattle.cargo_lock_diff.specs.Change.{change_of};
-ghost use Rattle.cargo_lock_diff.specs.Document.{counts_json};
+ghost use Rattle.cargo_lock_diff.specs.Document.{counts_json, located_change_json};
 ghost use Rattle.cargo_lock_diff.specs.Document as spec;
 ghost use Rattle.printing.specs.Json.{Adds, IsJsonText};
 
 use crate::change::Change;
 use crate::summary::Summary;
 use cargo_lock_display::{File, put_file};
+use cargo_lock_location::{Located, PackageLines, locate};
 use printing::{JsonWriter, ToJson, json_line, write_array};
 use std::alloc::{AllocError, Global};
 
 /// The document of the changes between two lockfiles, in one line:
 /// `{"schema":"cargo-lock-diff/1","old":{"path":"old.lock","format":3},"new":{..},"alarm":false,
-/// "counts":{"alarm":0,..},"changes":[..]}`. Fails when out of memory.
+/// "counts":{"alarm":0,..},"changes":[..]}`. Each change is at the line of its new package, by these
+/// lines of the new lockfile. Fails when out of memory.
 ///
 /// ```
 /// let old = File {
@@ -28,24 +30,42 @@ use std::alloc::{AllocError, Global};
 ///     format: ResolveVersion::V4,
 /// };
 /// let changes = difference.all_changes(rt.alloc(), false)?;
-/// let text = difference_json(rt.alloc(), &old, &new, changes.as_slice())?;
+/// let text = difference_json(rt.alloc(), &old, &new, changes.as_slice(), lines)?;
 /// ```
 pub fn difference_json(
     alloc: Global,
     old: &File<'_>,
     new: &File<'_>,
     changes: &[Change<'_>],
+    lines: &PackageLines<'_>,
 ) -> Result<String, AllocError>
     ensures { IfOk result (λ text. IsJsonText
-        (spec.difference_json old.now new.now (map change_of changes.now)) (string_bytes text)) }
+        (spec.difference_json old.now new.now lines.now (map change_of changes.now))
+        (string_bytes text)) }
 {
     let summary = Summary::of(changes);
+    let located = locate(alloc, changes, lines)?;
+    difference_document(alloc, old, new, &summary, &located)
+}
+
+// The document of changes at their lines, of which there are so many of each kind.
+fn difference_document(
+    alloc: Global,
+    old: &File<'_>,
+    new: &File<'_>,
+    summary: &Summary,
+    changes: &[Located<'_, Change<'_>>],
+) -> Result<String, AllocError>
+    ensures { IfOk result (λ text. IsJsonText
+        (spec.difference_document old.now new.now «summary».now
+        (map located_change_json changes.now)) (string_bytes text)) }
+{
     json_line(
         alloc,
         &Document {
             old,
             new,
-            summary: &summary,
+            summary,
             changes,
         },
     )
@@ -57,16 +77,15 @@ struct Document<'d, 'a> {
     old: &'d File<'d>,
     new: &'d File<'d>,
     summary: &'d Summary,
-    changes: &'d [Change<'a>],
+    changes: &'d [Located<'a, Change<'a>>],
 }
 
 impl ToJson for Document<'_, '_> {
     ghost use Rattle.std.specs.Prelude.{map};
-    ghost use Rattle.cargo_lock_diff.specs.Change.{change_of};
-    ghost use Rattle.cargo_lock_diff.specs.Document.{difference_document};
+    ghost use Rattle.cargo_lock_diff.specs.Document.{difference_document, located_change_json};
 
     ghost json = { λ d. difference_document d.old.now d.new.now d.«summary».now
-        (map change_of d.changes.now) };
+        (map located_change_json d.changes.now) };
 
     fn write_json(&self, out: &mut JsonWriter) -> Result<(), AllocError> {
         out.begin_object()?;

@@ -7,7 +7,7 @@ use crate::commits::{Commits, Revisions, have_one_repository};
 use crate::same::{have_one_line, have_one_place};
 use cargo_lock_display::{ChecksumText, DependencyText, NameVersion, SourceBehind, SourceText};
 use cargo_lock_parts::dependency::Dependency;
-use cargo_lock_parts::package::{Package, SourceId};
+use cargo_lock_parts::package::{Package, is_of_registry};
 use printing::Shown;
 use std::cmp::Ordering;
 use std::fmt;
@@ -186,16 +186,6 @@ impl fmt::Display for ChecksumMark<'_> {
         } else {
             Ok(())
         }
-    }
-}
-
-// Whether a package is from a registry.
-fn is_of_registry(source: &Option<SourceId>) -> bool
-    ensures { result ≡ spec.is_of_registry source.now }
-{
-    match source {
-        Some(source) => source.is_registry(),
-        None => false,
     }
 }
 

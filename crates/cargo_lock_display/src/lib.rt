@@ -10,8 +10,8 @@ pub mod source_json;
 
 pub use crate::file::{File, begin_document, list_document, put_file};
 pub use crate::line::{
-    ChecksumText, DependencyText, NameVersion, PackageText, ReplacementText, SourceBehind,
-    SourceText,
+    ChecksumText, DependencyText, NameVersion, PackageAmong, PackageText, ReplacementText,
+    SourceAmong, SourceBehind, SourceText,
 };
 pub use crate::package_json::{
     begin_identity, put_dependency, put_digest_or_null, put_package, put_package_or_null,

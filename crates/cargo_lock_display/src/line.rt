@@ -2,6 +2,7 @@
 
 use cargo_lock_parts::dependency::Dependency;
 use cargo_lock_parts::package::{Package, SourceId};
+use cargo_lock_references::index::Indexed;
 use printing::Shown;
 use std::fmt;
 
@@ -51,6 +52,33 @@ impl fmt::Display for PackageText<'_> {
     }
 }
 
+/// Displays a package of a list as `NAME VERSION`, and its source behind it as `SourceBehind` does
+/// where another package of the list has that name and version.
+///
+/// ```
+/// let among = PackageAmong(&list, package);
+/// println!(rt; "{among}")?;
+/// ```
+#[derive(Clone, Copy)]
+pub struct PackageAmong<'a>(pub &'a Indexed<'a, Package>, pub &'a Package);
+
+impl fmt::Display for PackageAmong<'_> {
+    ghost use Rattle.std.specs.Prelude.{Some};
+    ghost use Rattle.cargo_lock_display.specs.Line.{package_among};
+
+    ghost output = { λ shown. Some (package_among shown.0.now shown.1.now) };
+
+    fn fmt<W: fmt::Write>(&self, f: &mut fmt::Formatter<W>) -> fmt::Result {
+        let PackageAmong(list, package) = *self;
+        if list.is_version_unique(&package.name, &package.version) {
+            let alone = NameVersion(package);
+            return write!(f, "{alone}");
+        }
+        let text = PackageText(package);
+        write!(f, "{text}")
+    }
+}
+
 /// Displays a source as ` (SOURCE)`, ` (path)` if there is none. Nothing is written for crates.io.
 #[derive(Clone, Copy)]
 pub struct SourceBehind<'a>(pub &'a Option<SourceId>);
@@ -74,6 +102,33 @@ impl fmt::Display for SourceBehind<'_> {
             }
             None => f.write_str(" (path)"),
         }
+    }
+}
+
+/// Displays the source of a package of a list as `SourceBehind` does, but ` (path)` only where
+/// another package of the list has its name and version.
+///
+/// ```
+/// let source = SourceAmong(&list, package);
+/// println!(rt; "source:{source}")?;
+/// ```
+#[derive(Clone, Copy)]
+pub struct SourceAmong<'a>(pub &'a Indexed<'a, Package>, pub &'a Package);
+
+impl fmt::Display for SourceAmong<'_> {
+    ghost use Rattle.std.specs.Prelude.{Some};
+    ghost use Rattle.cargo_lock_display.specs.Line.{source_among};
+
+    ghost output = { λ shown. Some (source_among shown.0.now shown.1.now) };
+
+    fn fmt<W: fmt::Write>(&self, f: &mut fmt::Formatter<W>) -> fmt::Result {
+        let SourceAmong(list, package) = *self;
+        let source = &package.source;
+        if source.is_none() && list.is_version_unique(&package.name, &package.version) {
+            return Ok(());
+        }
+        let behind = SourceBehind(source);
+        write!(f, "{behind}")
     }
 }
 

@@ -13,7 +13,7 @@ use Rattle.cargo_lock_references.specs.Finds.{Finds, FindsUrls}
 use Rattle.cargo_lock_encoding.specs.Lockfiles.{format_of}
 use Rattle.cargo_lock_encoding.specs.Means.{IsLocked, IsPackage, Means, TextMeans, encoded_checksum, reading_list}
 use Rattle.cargo_lock_encoding.specs.Meaning.{ResolvedData, all_packages, completed_lockfile, listed_package, lockfile_of, meaning, package_of, resolved_values, root_package}
-use Rattle.cargo_lock_references.specs.Optional.{◌>>=◌, BothOrNone, map_all, map_some}
+use Rattle.cargo_lock_parts.specs.Optional.{◌>>=◌, BothOrNone, map_all, map_some}
 use Rattle.cargo_lock_references.specs.Records.{EncodedPackage, unmarked_source, encoded_identity}
 use Rattle.cargo_lock_encoding.specs.Lockfiles.{EncodedData, LockfileData}
 use Rattle.cargo_lock_references.specs.Reference.{mark_plain}

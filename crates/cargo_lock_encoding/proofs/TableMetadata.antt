@@ -8,11 +8,12 @@ use Rattle.std.specs.FinMap.{empty, get, get-empty, get-insert, insert}
 use Rattle.std.specs.Ordering.{eq_by_cmp}
 use Rattle.toml.specs.Data.{Data, string, integer, float, boolean, datetime, array, table, Members, no_members, member, get_member}
 use Rattle.cargo_lock_parts.specs.Identity.{Identity}
-use Rattle.cargo_lock_references.specs.Optional.{◌>>=◌}
+use Rattle.cargo_lock_parts.specs.Optional.{◌>>=◌}
 use Rattle.cargo_lock_encoding.specs.Lockfiles.{EncodedData}
 use Rattle.cargo_lock_references.specs.Records.{Texts}
 use Rattle.cargo_lock_encoding.specs.TableMetadata.{HasTextsAlone, IsLastText, IsMetadata, IsTableOfTexts, MeansKeyByKey, ReadsKeyByKey, TextsAtKeys, pairs_of}
-use Rattle.cargo_lock_encoding.specs.TableReading.{EncodedPackages, all_encoded_packages_at, encoded_at, metadata_in, number_in, optional_by, pairs_in, patch_in, put_all, text_in, texts_in}
+use Rattle.toml_fields.specs.Fields.{number_in, optional_by, text_in}
+use Rattle.cargo_lock_encoding.specs.TableReading.{EncodedPackages, all_encoded_packages_at, encoded_at, metadata_in, pairs_in, patch_in, put_all, texts_in}
 use Rattle.cargo_lock_references.proofs.LeastKeys.{order, Pairs, own_words-equal, same-key}
 use Rattle.cargo_lock_references.proofs.Texts.{same_texts}
 use Rattle.cargo_lock_encoding.proofs.PutAll.{or_else}

@@ -9,11 +9,12 @@ use Rattle.cargo_lock_parts.specs.declared.error.Error.{Error}
 use Rattle.cargo_lock_parts.specs.Error.{ReadsUrls}
 use Rattle.cargo_lock_parts.specs.Identity.{Identity}
 use Rattle.cargo_lock_parts.specs.SourceReading.{source_of}
-use Rattle.cargo_lock_references.specs.Optional.{◌>>=◌, map_all, map_some}
+use Rattle.cargo_lock_parts.specs.Optional.{◌>>=◌, map_all, map_some}
 use Rattle.cargo_lock_references.specs.Records.{EncodedPackage, Texts}
 use Rattle.cargo_lock_references.specs.Reference.{mark_plain, reference_of, version_of}
 use Rattle.cargo_lock_encoding.specs.Lockfiles.{EncodedData}
-use Rattle.cargo_lock_encoding.specs.TableReading.{EncodedPackages, all_encoded_packages_at, checksum_from, encoded_at, encoded_package_in, encoded_packages_at, identity_at, metadata_in, number_in, optional_by, optional_list, package_at_key, pairs_in, patch_in, put_all, read_all, reference_in, required_text, source_in, unused_patch_in}
+use Rattle.toml_fields.specs.Fields.{number_in, optional_by, optional_list, read_all, required_text}
+use Rattle.cargo_lock_encoding.specs.TableReading.{EncodedPackages, all_encoded_packages_at, checksum_from, encoded_at, encoded_package_in, encoded_packages_at, identity_at, metadata_in, package_at_key, pairs_in, patch_in, put_all, reference_in, source_in, unused_patch_in}
 use Rattle.cargo_lock_encoding.specs.WordsReading.{identity_from, package_from, values_from}
 
 -- ---- what it is read as

@@ -9,7 +9,7 @@ use Rattle.cargo_lock_references.specs.declared.version.ResolveVersion.{ResolveV
 use Rattle.cargo_lock_references.specs.declared.version.ResolveVersion.TheVariants.{V1, V2, V3, V4}
 use Rattle.cargo_lock_references.specs.Format.{format_by, format_by_checksums, has_checksum}
 use Rattle.cargo_lock_references.specs.Metadata.{has_checksum_key}
-use Rattle.cargo_lock_references.specs.Optional.{◌>>=◌, map_all, map_some}
+use Rattle.cargo_lock_parts.specs.Optional.{◌>>=◌, map_all, map_some}
 use Rattle.cargo_lock_references.specs.Records.{EncodedPackage, Texts, encoded_identity}
 use Rattle.cargo_lock_references.specs.Reference.{Reference, mark_plain, reference_of}
 use Rattle.cargo_lock_references.specs.ResolutionSearch.{resolution_of}

@@ -3,8 +3,8 @@
 use Rattle.std.specs.Prelude.{◌⊎◌, IsSomeAnd, codes}
 use Rattle.toml.specs.Data.{Data, Items, no_items, item, Members, get_member}
 use Rattle.cargo_lock_parts.specs.Error.{IsLong}
-use Rattle.cargo_lock_encoding.specs.TableReading.{members_in, optional_list, required_list}
-use Rattle.cargo_lock_encoding.specs.TableReading.{text_in}
+use Rattle.toml_fields.specs.Fields.{members_in, optional_list, required_list}
+use Rattle.toml_fields.specs.Fields.{text_in}
 
 -- the value is a text of 2^28 bytes or more
 abbrev pub IsLongText : Data → Type 0

@@ -10,7 +10,7 @@ use Rattle.cargo_lock_references.specs.declared.version.ResolveVersion.{ResolveV
 use Rattle.cargo_lock_references.specs.declared.version.ResolveVersion.TheVariants.{V1, V2, V3, V4}
 use Rattle.cargo_lock_encoding.specs.Lockfiles.{format_of}
 use Rattle.cargo_lock_references.specs.Metadata.{checksum_in}
-use Rattle.cargo_lock_references.specs.Optional.{BothOrNone}
+use Rattle.cargo_lock_parts.specs.Optional.{BothOrNone}
 use Rattle.cargo_lock_references.specs.Records.{EncodedPackage, Texts, unmarked_source}
 use Rattle.cargo_lock_references.specs.Records.{encoded_identity}
 use Rattle.cargo_lock_encoding.specs.Lockfiles.{EncodedData, LockfileData}

@@ -4,7 +4,7 @@ use Rattle.std.specs.Prelude.{ℕ, List, [], ◌∷◌, Option, Some, map}
 use Rattle.cargo_lock_lines.specs.TableOfWords.{LinedLockfile, LinedPackage}
 use Rattle.cargo_lock_parts.specs.Checksum.{digest_in}
 use Rattle.cargo_lock_parts.specs.Identity.{Identity, PackageData, identity_of}
-use Rattle.cargo_lock_references.specs.Optional.{◌>>=◌, map_all, map_some}
+use Rattle.cargo_lock_parts.specs.Optional.{◌>>=◌, map_all, map_some}
 use Rattle.cargo_lock_references.specs.Reference.{reference_of}
 use Rattle.cargo_lock_references.specs.ResolutionSearch.{resolution_of}
 use Rattle.cargo_lock_encoding.specs.Lockfiles.{LockfileData}

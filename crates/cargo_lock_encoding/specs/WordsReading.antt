@@ -5,7 +5,7 @@ use Rattle.cargo_lock_lines.specs.TableOfWords.{LinedIdentity, LinedLockfile, Li
 use Rattle.cargo_lock_parts.specs.Checksum.{digest_in}
 use Rattle.cargo_lock_parts.specs.Identity.{Identity}
 use Rattle.cargo_lock_parts.specs.SourceReading.{source_of}
-use Rattle.cargo_lock_references.specs.Optional.{◌>>=◌, map_all, map_some}
+use Rattle.cargo_lock_parts.specs.Optional.{◌>>=◌, map_all, map_some}
 use Rattle.cargo_lock_references.specs.Records.{EncodedPackage}
 use Rattle.cargo_lock_references.specs.Reference.{mark_plain, reference_of, version_of}
 use Rattle.cargo_lock_encoding.specs.Lockfiles.{EncodedData}

@@ -7,7 +7,7 @@ ghost use Rattle.cargo_lock_references.specs.declared.version.ResolveVersion.The
 ghost use Rattle.cargo_lock_encoding.specs.Meaning.{all_packages, listed_package, package_of};
 ghost use Rattle.cargo_lock_encoding.specs.Meaning.{resolved_values, root_package};
 ghost use Rattle.cargo_lock_encoding.specs.Lockfiles.{format_of};
-ghost use Rattle.cargo_lock_references.specs.Optional.{map_all, map_some};
+ghost use Rattle.cargo_lock_parts.specs.Optional.{map_all, map_some};
 ghost use Rattle.cargo_lock_references.specs.Records.{encoded_identity, texts_of};
 ghost use Rattle.cargo_lock_references.specs.ResolutionSearch.{resolution_of};
 

@@ -16,15 +16,14 @@ ghost use Rattle.cargo_lock_encoding.specs.LongTexts.{HasLongPackage, HasLongPar
 ghost use Rattle.cargo_lock_encoding.specs.LongTexts.{HasLongSource, HasLongUnused, HasLongUrlText};
 ghost use Rattle.cargo_lock_encoding.specs.LongTexts.{IsLongPackage, IsLongPatch, IsLongPatches};
 ghost use Rattle.cargo_lock_encoding.specs.LongTexts.{IsLongText, SomeItem};
+ghost use Rattle.toml_fields.specs.Fields.{items_in, number_in, optional_by, optional_list};
+ghost use Rattle.toml_fields.specs.Fields.{read_all, required_list, required_text, text_in};
 ghost use Rattle.cargo_lock_encoding.specs.TableReading.{all_encoded_packages_at, checksum_from};
-ghost use Rattle.cargo_lock_encoding.specs.TableReading.{encoded_at, encoded_packages_at};
-ghost use Rattle.cargo_lock_encoding.specs.TableReading.{package_at_key, encoded_package_in};
-ghost use Rattle.cargo_lock_encoding.specs.TableReading.{reference_in, items_in, metadata_in};
-ghost use Rattle.cargo_lock_encoding.specs.TableReading.{number_in, optional_by, optional_list};
-ghost use Rattle.cargo_lock_encoding.specs.TableReading.{patch_at, identity_at};
-ghost use Rattle.cargo_lock_encoding.specs.TableReading.{unused_patch_in, patch_in, read_all};
-ghost use Rattle.cargo_lock_encoding.specs.TableReading.{required_list, required_text, source_in};
-ghost use Rattle.cargo_lock_encoding.specs.TableReading.{text_in, texts_in};
+ghost use Rattle.cargo_lock_encoding.specs.TableReading.{encoded_at, encoded_package_in};
+ghost use Rattle.cargo_lock_encoding.specs.TableReading.{encoded_packages_at, identity_at};
+ghost use Rattle.cargo_lock_encoding.specs.TableReading.{metadata_in, package_at_key, patch_at};
+ghost use Rattle.cargo_lock_encoding.specs.TableReading.{patch_in, reference_in, source_in};
+ghost use Rattle.cargo_lock_encoding.specs.TableReading.{texts_in, unused_patch_in};
 
 use crate::values::EncodableLockfile;
 use cargo_lock_parts::dependency::Dependency;
@@ -39,6 +38,10 @@ use cargo_lock_references::{EncodableDependency, EncodablePackage, EncodableSour
 use std::alloc::Global;
 use std::marker::Model;
 use toml::{Table, Value};
+use toml_fields::{
+    list_in, missing_key, number_at, optional_list, required_list, required_text, text_in,
+    value_at, wrong_type,
+};
 
 /// Reads the values of a table. `Parse` says which value is refused: the first one that is absent,
 /// of another type, or a text that does not read, in the order of the keys here. `Parse` also comes
@@ -90,101 +93,6 @@ fn all_encoded_packages_at(alloc: Global, table: &Table) -> Result<AllEncodedPac
     let listed = encoded_packages_at(alloc, &mut sources, table)?;
     let root = table_at_key(alloc, &mut sources, table, "root")?;
     Ok(AllEncodedPackages { listed, root })
-}
-
-// ---- errors
-
-// The error for a value or an element of another type. For an element, `key` is that of its list.
-fn wrong_type(alloc: Global, key: &str) -> Error
-    ensures kind { IsParseOrMemory result }
-    ensures text { (result ≡ Memory)
-        ⊎ IsParse result (codes "wrong type: `" ++ key.now ++ codes "`") }
-{
-    Error::parse(format!(in alloc; "wrong type: `{key}`"))
-}
-
-// The error for a required key that is absent.
-fn missing_key(alloc: Global, key: &str) -> Error
-    ensures kind { IsParseOrMemory result }
-    ensures text { (result ≡ Memory)
-        ⊎ IsParse result (codes "missing key: `" ++ key.now ++ codes "`") }
-{
-    Error::parse(format!(in alloc; "missing key: `{key}`"))
-}
-
-// ---- values by their types
-
-fn value_at<'a>(table: &'a Table, key: &str) -> Option<&'a Value>
-    ensures { option_map (λ v. view v.now) result ≡ get_member key.now (table_view table.now) }
-{
-    table.get(key)
-}
-
-// The text that a value is.
-fn text_in<'a>(alloc: Global, value: &'a Value, key: &str) -> Result<&'a str>
-    ensures { Reads (λ s. s.now) result (text_in (view value.now)) }
-{
-    match value.as_str() {
-        Some(text) => Ok(text),
-        None => Err(wrong_type(alloc, key)),
-    }
-}
-
-// The text at a key that is required.
-fn required_text<'a>(alloc: Global, table: &'a Table, key: &str) -> Result<&'a str>
-    ensures { Reads
-        (λ s. s.now) result (required_text (get_member key.now (table_view table.now))) }
-{
-    match value_at(table, key) {
-        Some(value) => text_in(alloc, value, key),
-        None => Err(missing_key(alloc, key)),
-    }
-}
-
-// The whole number at a key, if the key is present.
-fn number_at(alloc: Global, table: &Table, key: &str) -> Result<Option<i64>>
-    ensures { Reads
-        (λ o. o) result (optional_by number_in (get_member key.now (table_view table.now))) }
-{
-    let Some(value) = value_at(table, key) else {
-        return Ok(None);
-    };
-    match value.as_integer() {
-        Some(number) => Ok(Some(number)),
-        None => Err(wrong_type(alloc, key)),
-    }
-}
-
-// The list that a value is.
-fn list_in<'a>(alloc: Global, value: &'a Value, key: &str) -> Result<&'a [Value]>
-    ensures { Reads (λ s. items_view s.now) result (items_in (view value.now)) }
-{
-    match value.as_array() {
-        Some(list) => Ok(list.as_slice()),
-        None => Err(wrong_type(alloc, key)),
-    }
-}
-
-// The list at a key, empty if the key is absent.
-fn optional_list<'a>(alloc: Global, table: &'a Table, key: &str) -> Result<&'a [Value]>
-    ensures { Reads
-        (λ s. items_view s.now) result (optional_list (get_member key.now (table_view table.now))) }
-{
-    match value_at(table, key) {
-        Some(value) => list_in(alloc, value, key),
-        None => Ok(&[]),
-    }
-}
-
-// The list at a key that is required.
-fn required_list<'a>(alloc: Global, table: &'a Table, key: &str) -> Result<&'a [Value]>
-    ensures { Reads
-        (λ s. items_view s.now) result (required_list (get_member key.now (table_view table.now))) }
-{
-    match value_at(table, key) {
-        Some(value) => list_in(alloc, value, key),
-        None => Err(missing_key(alloc, key)),
-    }
 }
 
 // ---- texts

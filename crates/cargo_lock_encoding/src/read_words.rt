@@ -11,7 +11,7 @@ ghost use Rattle.cargo_lock_lines.specs.TableOfWords.{words_table};
 ghost use Rattle.cargo_lock_parts.specs.Checksum.{digest_in, digest_of};
 ghost use Rattle.cargo_lock_parts.specs.Error.{Reads, ReadsUrls};
 ghost use Rattle.cargo_lock_parts.specs.SourceReading.{source_of};
-ghost use Rattle.cargo_lock_references.specs.Optional.{map_all, map_some};
+ghost use Rattle.cargo_lock_parts.specs.Optional.{map_all, map_some};
 ghost use Rattle.cargo_lock_references.specs.Reference.{reference_of};
 ghost use Rattle.cargo_lock_encoding.specs.TableReading.{encoded_at, put_all};
 ghost use Rattle.cargo_lock_encoding.specs.WordsReading.{identity_from, package_from, values_from};

@@ -7,7 +7,7 @@ ghost use Rattle.cargo_lock_parts.specs.declared.error.Error.TheVariants.{Memory
 ghost use Rattle.cargo_lock_parts.specs.Identity.{identity_of};
 ghost use Rattle.cargo_lock_references.specs.declared.version.ResolveVersion.TheVariants.{V1};
 ghost use Rattle.cargo_lock_references.specs.Format.{format_by};
-ghost use Rattle.cargo_lock_references.specs.Optional.{map_all, map_some};
+ghost use Rattle.cargo_lock_parts.specs.Optional.{map_all, map_some};
 ghost use Rattle.cargo_lock_references.specs.Records.{texts_of};
 ghost use Rattle.std.specs.FinMap.{empty};
 ghost use Rattle.cargo_lock_encoding.specs.Meaning.{meaning};

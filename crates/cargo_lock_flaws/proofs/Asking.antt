@@ -1,7 +1,7 @@
 -- Groups whose packages were all reached.
 use Rattle.std.proofs.Common.{◌≡◌, ◌<◌, ◌≤◌, ◌+◌, inl, inr, ℕ, Bool, List, length, get_or, take, sym, subst}
 use Rattle.std.proofs.lemmas.List.{take_all}
-use Rattle.cargo_lock_flaws.specs.Groups.{Grouping}
+use Rattle.cargo_lock_edges.specs.Groups.{Grouping}
 use Rattle.lists.specs.Marks.{IsMarked}
 use Rattle.lists.specs.Reach.{HasReached, ReachData}
 use Rattle.lists.proofs.Members.{taken-cases}

@@ -4,9 +4,6 @@ pub mod Parts
 pub mod SeenBefore
 pub mod DependencyPlaces
 pub mod DependencySeen
-pub mod GroupMatch
-pub mod OnlyOnes
-pub mod Grouping
 pub mod Searching
 pub mod Asking
 pub mod StaleKeys

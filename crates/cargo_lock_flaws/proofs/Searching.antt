@@ -10,9 +10,10 @@ use Rattle.lists.specs.Marks.{IsMarked}
 use Rattle.lists.specs.Places.{IsPlaces}
 use Rattle.lists.specs.Reach.{HasReached, ReachData}
 use Rattle.lists.proofs.ReachedPlaces.{reached-alike, reached-both, reached-none}
-use Rattle.cargo_lock_flaws.specs.declared.groups.BestGroup.{BestGroup}
-use Rattle.cargo_lock_flaws.specs.Groups.{Grouping, IsBestGroup}
-use Rattle.cargo_lock_flaws.specs.Reach.{AsksFor, IsOneOfBest, IsOrphan, IsReachedFromWorkspace, IsStart, IsWorkspacePackage, PackageLeadsTo}
+use Rattle.cargo_lock_edges.specs.declared.groups.BestGroup.{BestGroup}
+use Rattle.cargo_lock_edges.specs.Groups.{Grouping, IsBestGroup}
+use Rattle.cargo_lock_edges.specs.Best.{IsOneOfBest}
+use Rattle.cargo_lock_flaws.specs.Reach.{AsksFor, IsOrphan, IsReachedFromWorkspace, IsStart, IsWorkspacePackage, PackageLeadsTo}
 use Rattle.cargo_lock_flaws.proofs.PackagePlaces.{fails-there, holds-there}
 
 -- ---- the packages that match best

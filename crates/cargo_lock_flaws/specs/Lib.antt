@@ -8,6 +8,4 @@ pub mod Dependencies
 pub mod Seen
 pub mod Lost
 pub mod Reach
-pub mod Group
-pub mod Groups
 pub mod Search

@@ -4,21 +4,12 @@
 -- match one of these equally well, such as one at a branch and one at a commit of one repository,
 -- it leads to each of them. A lockfile of V1 may have a separate root, which is of the workspace
 -- too.
-use Rattle.std.specs.Prelude.{◌≡◌, ◌≤◌, ℕ, List, Option, Some, None, ◌⊎◌}
+use Rattle.std.specs.Prelude.{◌≡◌, ℕ, List, Option, Some, None, ◌⊎◌}
 use Rattle.std.specs.List.{Contains}
 use Rattle.cargo_lock_parts.specs.Identity.{Identity, PackageData}
-use Rattle.cargo_lock_graph.specs.Targets.{HoldsOf, MatchesAt}
+use Rattle.cargo_lock_graph.specs.Targets.{HoldsOf}
 use Rattle.lists.specs.Chains.{IsReachedFrom}
-
--- the package at the place matches the dependency with this rank, and none matches with a lesser
--- one
-pub record IsBestMatch (packages : List PackageData) (d : Identity) (rank place : ℕ) : Type 0 where
-  pub fits : MatchesAt packages d place rank
-  pub least : (k other : ℕ) → MatchesAt packages d k other → rank ≤ other
-
--- the package at the place is one of those that match the dependency best
-abbrev pub IsOneOfBest : List PackageData → Identity → ℕ → Type 0
-IsOneOfBest packages d place = (rank : ℕ) × IsBestMatch packages d rank place
+use Rattle.cargo_lock_edges.specs.Best.{IsOneOfBest}
 
 -- the identity is one of a package's dependencies, or its replacement
 abbrev pub IsAskedBy : PackageData → Identity → Type 0

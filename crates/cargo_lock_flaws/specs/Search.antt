@@ -3,7 +3,7 @@ use Rattle.std.specs.Prelude.{ℕ, Bool, List}
 use Rattle.std.specs.List.{Contains}
 use Rattle.lists.specs.Marks.{IsMarked}
 use Rattle.lists.specs.Reach.{ReachData}
-use Rattle.cargo_lock_flaws.specs.Groups.{Grouping, group_places}
+use Rattle.cargo_lock_edges.specs.Groups.{Grouping, group_places}
 
 -- these places have marks
 abbrev pub AreReached : List ℕ → ReachData → Type 0

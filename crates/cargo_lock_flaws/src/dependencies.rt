@@ -4,11 +4,11 @@ ghost use Rattle.std.specs.Prelude.{◌≡◌, ◌+◌, ◌<◌, IfOk, OnOk, len
 ghost use Rattle.std.specs.Bool.{Decides};
 ghost use Rattle.std.specs.Ordering.{is_lt};
 ghost use Rattle.cargo_lock_parts.specs.IdentityOrder.{identity_cmp};
-ghost use Rattle.cargo_lock_graph.specs.Candidates.{identity_as_key};
 ghost use Rattle.cargo_lock_flaws.specs.Dependencies.{AreDependencies, AreDependenciesBefore};
 ghost use Rattle.cargo_lock_flaws.specs.Dependencies.{DoAscend, IsAfterNext};
 ghost use Rattle.cargo_lock_flaws.specs.Dependencies.{IsDependencyMisplacedAt, IsRepeatedAt};
 
+use cargo_lock_edges::index::identity;
 use cargo_lock_order::dependency_order;
 use cargo_lock_parts::dependency::Dependency;
 use cargo_lock_parts::package::{Package, PartialIdentity};
@@ -142,15 +142,4 @@ fn is_less(one: &Dependency, next: &Dependency) -> bool
     ensures { result ≡ is_lt (identity_cmp one.now next.now) }
 {
     one.cmp(next) == Ordering::Less
-}
-
-// The identity of a dependency, as a key.
-pub(crate) fn identity<'a>(dependency: &'a Dependency) -> PartialIdentity<'a>
-    ensures { result ≡ identity_as_key dependency.now }
-{
-    PartialIdentity {
-        name: &dependency.name,
-        version: Some(&dependency.version),
-        source: dependency.source.as_ref(),
-    }
 }

@@ -1,12 +1,12 @@
-//! Indexes of the packages of a list: by their identities, and by their names and versions.
+//! An index of the packages of a list by their identities.
 
-ghost use Rattle.std.specs.Prelude.{◌≡◌, IfOk};
+ghost use Rattle.std.specs.Prelude.{IfOk};
 ghost use Rattle.cargo_lock_index.specs.Near.{IsIndexOf};
-ghost use Rattle.cargo_lock_parts.specs.Identity.{identity_of};
-ghost use Rattle.cargo_lock_graph.specs.Candidates.{identity_as_key, keys_of, versions_of};
+ghost use Rattle.cargo_lock_graph.specs.Candidates.{keys_of};
 
+use cargo_lock_edges::index::package_key;
 use cargo_lock_index::places::{Keys, Places};
-use cargo_lock_parts::package::{Package, PartialIdentity};
+use cargo_lock_parts::package::Package;
 use std::alloc::{AllocError, Global};
 
 /// The places of the packages with each identity. Fails when out of memory.
@@ -21,30 +21,4 @@ pub(crate) fn places_of<'a>(
         keys.add(package_key(&packages[place]))?;
     }
     keys.into_places()
-}
-
-/// The places of the packages with each name and version. Fails when out of memory.
-pub(crate) fn version_places<'a>(
-    alloc: Global,
-    packages: &'a [Package],
-) -> Result<Places<'a>, AllocError>
-    ensures { IfOk result (λ places. IsIndexOf (versions_of packages.now) places) }
-{
-    let mut keys = Keys::with_capacity(alloc, packages.len())?;
-    for place in 0..packages.len() {
-        let package = &packages[place];
-        keys.add(PartialIdentity::name_and_version(&package.name, &package.version))?;
-    }
-    keys.into_places()
-}
-
-/// The identity of a package, as a key.
-pub(crate) fn package_key<'a>(package: &'a Package) -> PartialIdentity<'a>
-    ensures { result ≡ identity_as_key (identity_of «package».now) }
-{
-    PartialIdentity {
-        name: &package.name,
-        version: Some(&package.version),
-        source: package.source.as_ref(),
-    }
 }

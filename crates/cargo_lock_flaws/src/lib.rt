@@ -21,7 +21,6 @@
 
 pub mod alike;
 pub mod dependencies;
-mod groups;
 mod index;
 pub mod lost;
 pub mod names;

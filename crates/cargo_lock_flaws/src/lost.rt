@@ -6,7 +6,7 @@ ghost use Rattle.cargo_lock_graph.specs.Targets.{IsLost};
 ghost use Rattle.cargo_lock_flaws.specs.Dependencies.{AreDependenciesBefore};
 ghost use Rattle.cargo_lock_flaws.specs.Lost.{AreLost, IsLostAt};
 
-use crate::groups::Groups;
+use cargo_lock_edges::groups::Groups;
 use cargo_lock_parts::dependency::Dependency;
 use cargo_lock_parts::package::Package;
 use std::alloc::{AllocError, Global};

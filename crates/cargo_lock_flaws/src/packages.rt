@@ -9,7 +9,8 @@ ghost use Rattle.cargo_lock_flaws.specs.Seen.{is_source_among};
 ghost use Rattle.cargo_lock_parts.specs.Source.{Source};
 ghost use Rattle.cargo_lock_parts.specs.SourceKey.{is_same_source};
 
-use crate::index::{package_key, places_of};
+use crate::index::places_of;
+use cargo_lock_edges::index::package_key;
 use cargo_lock_order::package_order;
 use cargo_lock_parts::package::{Package, SourceId};
 use std::alloc::{AllocError, Global};

@@ -3,8 +3,9 @@
 ghost use Rattle.std.specs.Prelude.{◌≡◌, ◌<◌, ◌↔◌, ◌⊎◌, ℕ, false, true, IfOk, IsTrue, OnOk, Some};
 ghost use Rattle.std.specs.Prelude.{length, slice_get};
 ghost use Rattle.cargo_lock_graph.specs.Targets.{MatchesAt};
-ghost use Rattle.cargo_lock_flaws.specs.Groups.{HasMatches, IsBest, group_places};
-ghost use Rattle.cargo_lock_flaws.specs.Reach.{AsksFor, IsOneOfBest, IsOrphan};
+ghost use Rattle.cargo_lock_edges.specs.Groups.{HasMatches, IsBest, group_places};
+ghost use Rattle.cargo_lock_edges.specs.Best.{IsOneOfBest};
+ghost use Rattle.cargo_lock_flaws.specs.Reach.{AsksFor, IsOrphan};
 ghost use Rattle.cargo_lock_flaws.specs.Reach.{IsReachedFromWorkspace, IsStart, IsWorkspacePackage};
 ghost use Rattle.cargo_lock_flaws.specs.Search.{AreGroupsAsked, AreReached};
 ghost use Rattle.lists.specs.Chains.{OneLeadsTo};
@@ -12,7 +13,7 @@ ghost use Rattle.lists.specs.Marks.{IsMarked};
 ghost use Rattle.lists.specs.Places.{IsPlaces};
 ghost use Rattle.lists.specs.Reach.{HasReached, fresh};
 
-use crate::groups::{BestGroup, BestMatch, Groups};
+use cargo_lock_edges::groups::{BestGroup, BestMatch, Groups};
 use cargo_lock_parts::dependency::Dependency;
 use cargo_lock_parts::package::Package;
 use lists::marks::is_marked;

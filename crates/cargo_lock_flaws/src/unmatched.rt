@@ -6,9 +6,9 @@ ghost use Rattle.cargo_lock_flaws.specs.Lost.{AreLost};
 ghost use Rattle.lists.specs.Places.{IsPlaces};
 ghost use Rattle.cargo_lock_flaws.specs.Reach.{IsOrphan};
 
-use crate::groups::Groups;
 use crate::lost::lost_among;
 use crate::reach::orphans_among;
+use cargo_lock_edges::groups::Groups;
 use cargo_lock_parts::package::Package;
 use std::alloc::{AllocError, Global};
 

@@ -15,10 +15,10 @@ one-order a b p q = elim (cases_Bool (nat_lt a b)) [
   ]
 ]
 
-last-one : (P : ℕ → Type 0) (bound j k : ℕ) → IsLastBelow P bound (Some j) → IsLastBelow P bound (Some k) → j ≡ k
+pub last-one : (P : ℕ → Type 0) (bound j k : ℕ) → IsLastBelow P bound (Some j) → IsLastBelow P bound (Some k) → j ≡ k
 last-one P bound j k a b = one-order j k (λ less. a.2 k less b.0 b.1) (λ more. b.2 j more a.0 a.1)
 
-target-one : (packages : List PackageData) (d : Identity) (j k : ℕ) → IsTarget packages d j → IsTarget packages d k → j ≡ k
+pub target-one : (packages : List PackageData) (d : Identity) (j k : ℕ) → IsTarget packages d j → IsTarget packages d k → j ≡ k
 target-one packages d j k a b =
     let low = a.least k b.rank b.fits in
     let high = b.least j a.rank a.fits in

@@ -63,6 +63,28 @@ pub enum EdgeDirection {
     Incoming,
 }
 
+impl EdgeDirection {
+    ghost use Rattle.std.specs.Prelude.{cond};
+    ghost use Rattle.cargo_lock_graph.specs.declared.graph.EdgeDirection.TheVariants.{Incoming};
+    ghost use Rattle.cargo_lock_graph.specs.declared.graph.EdgeDirection.TheVariants.{Outgoing};
+
+    /// The direction in which a tree is drawn: to what a package depends on, or, if the tree is
+    /// inverted, to its dependents.
+    ///
+    /// ```
+    /// let direction = EdgeDirection::of_tree(is_inverted);
+    /// ```
+    pub fn of_tree(is_inverted: bool) -> EdgeDirection
+        ensures { result ≡ cond is_inverted Incoming Outgoing }
+    {
+        if is_inverted {
+            EdgeDirection::Incoming
+        } else {
+            EdgeDirection::Outgoing
+        }
+    }
+}
+
 // An edge as it is stored.
 #[derive(Debug, Drop)]
 pub(crate) struct StoredEdge {

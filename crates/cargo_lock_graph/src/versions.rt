@@ -47,7 +47,7 @@ impl<'a> Versions<'a> {
     pub fn of(alloc: Global, packages: &'a [Package]) -> Result<Versions<'a>, AllocError>
         ensures { IfOk result (λ versions. versions ≡ packages.now) }
     {
-        let places = places_of(alloc, packages)?;
+        let places = version_places(alloc, packages)?;
         Ok(Versions { packages, places })
     }
 
@@ -99,8 +99,16 @@ impl<'a> Versions<'a> {
     }
 }
 
-// The places of each name and version.
-fn places_of<'a>(alloc: Global, packages: &'a [Package]) -> Result<Places<'a>, AllocError>
+/// The places of the packages with each name and version.
+///
+/// # Errors
+///
+/// Out of memory.
+///
+/// ```
+/// let places = version_places(alloc, &lockfile.packages)?;
+/// ```
+pub fn version_places<'a>(alloc: Global, packages: &'a [Package]) -> Result<Places<'a>, AllocError>
     ensures { IfOk result (λ places. IsIndexOf (versions_of packages.now) places) }
 {
     let mut keys = Keys::with_capacity(alloc, packages.len())?;
@@ -121,8 +129,13 @@ pub(crate) fn rank_at(packages: &[Package], dependency: &Dependency, place: usiz
     rank_between(&dependency.source, &package.source)
 }
 
-// The rank of two sources that may be absent.
-fn rank_between(a: &Option<SourceId>, b: &Option<SourceId>) -> Option<u8>
+/// How well two sources that may be absent match: the smaller the better. An absent source matches
+/// only an absent one, and with the best rank. `None` if they do not match.
+///
+/// ```
+/// let rank = rank_between(&dependency.source, &package.source);
+/// ```
+pub fn rank_between(a: &Option<SourceId>, b: &Option<SourceId>) -> Option<u8>
     ensures { result ≡ rank_between a.now b.now }
 {
     match (a, b) {

@@ -29,8 +29,8 @@ lockfile_json file l packages root = document_json (codes "cargo-lock-lockfile/1
     (member (codes "metadata") (object (texts_members (entries l.metadata)))
     (member (codes "patch") (patch_json l.patch) no_members))))
 
--- The text is the document of the lockfile at a path, in which each dependency leads where it
--- resolves: it reads as the document, by the reader's own definition.
+-- The text is the document of the lockfile at a path, with the places to which dependencies lead: it
+-- reads as the document, by the reader's own definition.
 pub record IsDocumentOf (path : Option (List ℕ)) (l : LockfileData) (text : List ℕ) : Type 0 where
   pub packages : List LinkedData
   pub root : Option LinkedData

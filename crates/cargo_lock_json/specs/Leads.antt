@@ -2,17 +2,17 @@
 use Rattle.std.specs.Prelude.{◌≡◌, List, Option, MatchOption}
 use Rattle.std.specs.List.{AllZip}
 use Rattle.cargo_lock_parts.specs.Identity.{Identity, PackageData}
-use Rattle.cargo_lock_graph.specs.Targets.{IsLost, IsTarget}
-use Rattle.cargo_lock_references.specs.Optional.{BothOrNone}
+use Rattle.cargo_lock_graph.specs.Targets.{IsLost}
+use Rattle.cargo_lock_edges.specs.Leads.{LeadsToPackage}
+use Rattle.cargo_lock_parts.specs.Optional.{BothOrNone}
 use Rattle.cargo_lock_json.specs.Linked.{LeadData, LinkedData}
 
--- the place is that of the package to which the dependency resolves, as an edge of the graph leads,
--- or there is none because no package fits the dependency
+-- the dependency leads to the place, or there is none because no package fits the dependency
 abbrev pub IsLead : List PackageData → Identity → LeadData → Type 0
 IsLead packages d lead = (lead.dependency ≡ d)
-    × MatchOption lead.place (IsLost packages d) (IsTarget packages d)
+    × MatchOption lead.place (IsLost packages d) (LeadsToPackage packages d)
 
--- each dependency of the package leads where it resolves, in the package's order
+-- each dependency of the package is there with the place to which it leads, in the package's order
 abbrev pub IsLinked : List PackageData → PackageData → LinkedData → Type 0
 IsLinked packages p linked = (linked.listed ≡ p)
     × AllZip (IsLead packages) p.dependencies linked.leads

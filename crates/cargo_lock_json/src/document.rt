@@ -16,7 +16,7 @@ use crate::package::{put_dependencies, put_packages, put_root};
 use cargo_lock::Lockfile;
 use cargo_lock::metadata::Metadata;
 use cargo_lock_display::{File, begin_document};
-use cargo_lock_graph::targets::Candidates;
+use cargo_lock_edges::Groups;
 use cargo_lock_parts::patch::Patch;
 use cargo_lock_references::checksums::keys_ascend;
 use printing::{JsonWriter, ToJson, json_line};
@@ -38,9 +38,9 @@ pub fn lockfile_json(
     ensures { IfOk result
         (λ text. IsDocumentOf (option_map (λ t. t.now) path.entry) lockfile.now (string_bytes text)) }
 {
-    let candidates = Candidates::of(alloc, lockfile.packages.as_slice())?;
-    let packages = link_each(alloc, &candidates, lockfile.packages.as_slice())?;
-    let root = link_root(alloc, &candidates, &lockfile.root)?;
+    let groups = Groups::of(alloc, lockfile.packages.as_slice())?;
+    let packages = link_each(alloc, &groups, lockfile.packages.as_slice())?;
+    let root = link_root(alloc, &groups, &lockfile.root)?;
     let file = File {
         path,
         format: lockfile.version,

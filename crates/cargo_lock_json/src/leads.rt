@@ -5,7 +5,7 @@ ghost use Rattle.std.specs.List.{AllZip};
 ghost use Rattle.cargo_lock_json.specs.Leads.{IsLead, IsLinked, IsLinkedRoot};
 
 use crate::linked::{Lead, Linked};
-use cargo_lock_graph::targets::Candidates;
+use cargo_lock_edges::Groups;
 use cargo_lock_parts::dependency::Dependency;
 use cargo_lock_parts::package::Package;
 use std::alloc::{AllocError, Global};
@@ -13,53 +13,53 @@ use std::alloc::{AllocError, Global};
 /// Where the dependencies of a package lead. Fails when out of memory.
 pub fn link<'a>(
     alloc: Global,
-    candidates: &Candidates<'a>,
+    groups: &Groups<'a>,
     package: &'a Package,
 ) -> Result<Linked<'a>, AllocError>
-    ensures { IfOk result (λ linked. IsLinked candidates.now «package».now linked) }
+    ensures { IfOk result (λ linked. IsLinked groups.now.packages «package».now linked) }
 {
-    let leads = leads_of(alloc, candidates, package.dependencies.as_slice())?;
+    let leads = leads_of(alloc, groups, package.dependencies.as_slice())?;
     Ok(Linked { package, leads })
 }
 
 // Where these dependencies lead.
 fn leads_of<'a>(
     alloc: Global,
-    candidates: &Candidates<'a>,
+    groups: &Groups<'a>,
     dependencies: &'a [Dependency],
 ) -> Result<Vec<Lead<'a>>, AllocError>
     ensures { IfOk result
-        (λ leads. AllZip (IsLead candidates.now) dependencies.now leads.items) }
+        (λ leads. AllZip (IsLead groups.now.packages) dependencies.now leads.items) }
 {
     let mut leads = Vec::with_capacity(alloc, dependencies.len())?;
     for dependency in dependencies {
-        leads.push(lead(candidates, dependency))?;
+        leads.push(lead(groups, dependency))?;
     }
     Ok(leads)
 }
 
 // Where a dependency leads.
-fn lead<'a>(candidates: &Candidates<'a>, dependency: &'a Dependency) -> Lead<'a>
-    ensures { IsLead candidates.now dependency.now result }
+fn lead<'a>(groups: &Groups<'a>, dependency: &'a Dependency) -> Lead<'a>
+    ensures { IsLead groups.now.packages dependency.now result }
 {
     Lead {
         dependency,
-        place: candidates.find(dependency),
+        place: groups.lead(dependency),
     }
 }
 
 /// Where the dependencies of these packages lead. Fails when out of memory.
 pub fn link_each<'a>(
     alloc: Global,
-    candidates: &Candidates<'a>,
+    groups: &Groups<'a>,
     packages: &'a [Package],
 ) -> Result<Vec<Linked<'a>>, AllocError>
     ensures { IfOk result
-        (λ linked. AllZip (IsLinked candidates.now) packages.now linked.items) }
+        (λ linked. AllZip (IsLinked groups.now.packages) packages.now linked.items) }
 {
     let mut linked = Vec::with_capacity(alloc, packages.len())?;
     for package in packages {
-        linked.push(link(alloc, candidates, package)?)?;
+        linked.push(link(alloc, groups, package)?)?;
     }
     Ok(linked)
 }
@@ -67,13 +67,13 @@ pub fn link_each<'a>(
 /// Where the dependencies of the root lead, if there is a root. Fails when out of memory.
 pub fn link_root<'a>(
     alloc: Global,
-    candidates: &Candidates<'a>,
+    groups: &Groups<'a>,
     root: &'a Option<Package>,
 ) -> Result<Option<Linked<'a>>, AllocError>
-    ensures { IfOk result (λ linked. IsLinkedRoot candidates.now root.now linked) }
+    ensures { IfOk result (λ linked. IsLinkedRoot groups.now.packages root.now linked) }
 {
     match root {
-        Some(root) => Ok(Some(link(alloc, candidates, root)?)),
+        Some(root) => Ok(Some(link(alloc, groups, root)?)),
         None => Ok(None),
     }
 }

@@ -1,5 +1,6 @@
 //! A lockfile as one document of JSON, for programs in any language: its packages, and for each one
-//! the packages on which it depends, by their places, as the edges of its tree lead.
+//! the packages on which it depends, by their places, as dependencies lead in this project's own
+//! commands.
 //!
 //! `docs/JSON.md` has the document.
 #![tactic(auto)]

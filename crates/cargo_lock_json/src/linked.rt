@@ -4,8 +4,8 @@ use cargo_lock_parts::dependency::Dependency;
 use cargo_lock_parts::package::Package;
 use std::marker::Model;
 
-/// A dependency, and the place of the package to which it resolves. `None` means that no package
-/// fits it.
+/// A dependency, and the place of the package to which it leads. `None` means that no package fits
+/// it.
 #[derive(Drop)]
 pub struct Lead<'a> {
     /// The dependency.

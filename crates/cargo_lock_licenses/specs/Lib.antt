@@ -12,3 +12,4 @@ pub mod Judged
 pub mod Report
 pub mod Lines
 pub mod Document
+pub mod Reporting

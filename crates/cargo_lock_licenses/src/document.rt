@@ -5,7 +5,7 @@ ghost use Rattle.cargo_lock_licenses.specs.Judged.{judged_of, word_of};
 ghost use Rattle.cargo_lock_licenses.specs.Report.{unmet_of};
 ghost use Rattle.cargo_lock_licenses.specs.Verdicts.{verdict_of};
 ghost use Rattle.cargo_lock_licenses.specs.Document.{expression_of, other_text, verdict_kind};
-ghost use Rattle.cargo_lock_licenses.specs.Document.{verdict_package};
+ghost use Rattle.cargo_lock_licenses.specs.Document.{located_judged_json, verdict_package};
 ghost use Rattle.cargo_lock_licenses.specs.Document as spec;
 ghost use Rattle.printing.specs.Json.{IsJsonText};
 
@@ -13,66 +13,97 @@ use crate::judged::{Judged, Word};
 use crate::report::{Report, Unmet};
 use crate::verdict::Verdict;
 use cargo_lock_display::{File, begin_document, put_package};
+use cargo_lock_location::{Lined, Located, PackageLines, locate, put_line};
 use cargo_lock_parts::package::Package;
 use printing::{JsonWriter, ToJson, json_line, write_array, write_text_or_null};
 use std::alloc::{AllocError, Global};
 
 /// The document of what is said of the licences of packages, in one line:
 /// `{"schema":"cargo-lock-licenses/1","path":"Cargo.lock","format":4,"packages":[..],"unmet":[..]}`.
-/// Fails when out of memory.
+/// Each is at the line of its package, by these lines. Fails when out of memory.
 ///
 /// ```
-/// let text = licenses_json(rt.alloc(), &file, &report)?;
+/// let text = licenses_json(rt.alloc(), file, report, lines)?;
 /// ```
 pub fn licenses_json(
     alloc: Global,
     file: &File<'_>,
     report: &Report<'_, '_>,
+    lines: &PackageLines<'_>,
 ) -> Result<String, AllocError>
     ensures { IfOk result (λ text. IsJsonText
-        (spec.licenses_json file.now (map judged_of report.now.judged.items)
+        (spec.licenses_json file.now lines.now (map judged_of report.now.judged.items)
         (map unmet_of report.now.unmet.items)) (string_bytes text)) }
 {
-    json_line(alloc, &Document { file, report })
+    let judged = locate(alloc, &report.judged, lines)?;
+    licenses_document(alloc, file, &judged, &report.unmet)
+}
+
+// The document of what is said of packages at their lines, and of what was said in vain.
+fn licenses_document(
+    alloc: Global,
+    file: &File<'_>,
+    judged: &[Located<'_, Judged<'_, '_>>],
+    unmet: &[Unmet<'_>],
+) -> Result<String, AllocError>
+    ensures { IfOk result (λ text. IsJsonText
+        (spec.licenses_document file.now (map located_judged_json judged.now)
+        (map unmet_of unmet.now)) (string_bytes text)) }
+{
+    json_line(
+        alloc,
+        &Document {
+            file,
+            judged,
+            unmet,
+        },
+    )
 }
 
 // What the document has.
 #[derive(Clone, Copy)]
 struct Document<'d, 'r> {
     file: &'d File<'d>,
-    report: &'d Report<'r, 'r>,
+    judged: &'d [Located<'r, Judged<'r, 'r>>],
+    unmet: &'d [Unmet<'r>],
 }
 
 impl ToJson for Document<'_, '_> {
     ghost use Rattle.std.specs.Prelude.{map};
-    ghost use Rattle.cargo_lock_licenses.specs.Judged.{judged_of};
     ghost use Rattle.cargo_lock_licenses.specs.Report.{unmet_of};
-    ghost use Rattle.cargo_lock_licenses.specs.Document.{licenses_json};
+    ghost use Rattle.cargo_lock_licenses.specs.Document.{licenses_document, located_judged_json};
 
-    ghost json = { λ d. licenses_json d.file.now (map judged_of d.report.now.judged.items)
-        (map unmet_of d.report.now.unmet.items) };
+    ghost json = { λ d. licenses_document d.file.now (map located_judged_json d.judged.now)
+        (map unmet_of d.unmet.now) };
 
     fn write_json(&self, out: &mut JsonWriter) -> Result<(), AllocError> {
         begin_document(out, "cargo-lock-licenses/1", self.file)?;
         out.key("packages")?;
-        write_array(out, &self.report.judged)?;
+        write_array(out, self.judged)?;
         out.key("unmet")?;
-        write_array(out, &self.report.unmet)?;
+        write_array(out, self.unmet)?;
         out.end_object()
     }
 }
 
-impl ToJson for Judged<'_, '_> {
+impl Lined for Judged<'_, '_> {
     ghost use Rattle.cargo_lock_licenses.specs.Judged.{judged_of};
-    ghost use Rattle.cargo_lock_licenses.specs.Document.{judged_json};
+    ghost use Rattle.cargo_lock_licenses.specs.Document.{judged_json, judged_line_in};
 
-    ghost json = { λ judged. judged_json (judged_of judged) };
+    ghost line_in = { λ lines judged. judged_line_in lines (judged_of judged) };
 
-    fn write_json(&self, out: &mut JsonWriter) -> Result<(), AllocError> {
+    ghost json_at = { λ line judged. judged_json line (judged_of judged) };
+
+    fn line(&self, lines: &PackageLines<'_>) -> Option<usize> {
+        lines.of(package(&self.verdict))
+    }
+
+    fn write_json_at(&self, line: Option<usize>, out: &mut JsonWriter) -> Result<(), AllocError> {
         let verdict = &self.verdict;
         out.begin_object()?;
         out.string_member("kind", kind(verdict))?;
         out.displayed_member("message", self)?;
+        put_line(out, line)?;
         out.key("package")?;
         put_package(out, package(verdict))?;
         write_text_or_null(out, "expression", expression(verdict))?;
@@ -118,7 +149,7 @@ fn other_text<'a>(word: Word<'a>) -> Option<&'a str>
 }
 
 // The kind of a verdict, as the document has it.
-fn kind(verdict: &Verdict<'_, '_>) -> &'static str
+pub(crate) fn kind(verdict: &Verdict<'_, '_>) -> &'static str
     ensures { result.now ≡ verdict_kind (verdict_of verdict.now) }
 {
     match verdict {
@@ -133,7 +164,7 @@ fn kind(verdict: &Verdict<'_, '_>) -> &'static str
 }
 
 // The package of a verdict.
-fn package<'p>(verdict: &Verdict<'p, '_>) -> &'p Package
+pub(crate) fn package<'p>(verdict: &Verdict<'p, '_>) -> &'p Package
     ensures { result.now ≡ verdict_package (verdict_of verdict.now) }
 {
     match *verdict {

@@ -9,7 +9,8 @@ use Rattle.cargo_lock.specs.CargoChecksums.{unpinned}
 use Rattle.cargo_lock_parts.specs.Identity.{Identity, PackageData, identity_of}
 use Rattle.cargo_lock_parts.specs.Source.{Source}
 use Rattle.cargo_lock_merge_core.specs.Assembled.{AreSides, IsIdentityAt}
-use Rattle.cargo_lock_merge_core.specs.Commits.{Lockfiles, key_without_commit}
+use Rattle.cargo_lock_edges.specs.Nearest.{key_without_commit}
+use Rattle.cargo_lock_merge_core.specs.Commits.{Lockfiles}
 use Rattle.cargo_lock_merge_core.specs.Lists.{place_at}
 use Rattle.cargo_lock_merge_core.specs.Merge.{IsMerge, Triple}
 use Rattle.cargo_lock_merge_core.specs.Placed.{HasAt, PlacedData}

@@ -3,7 +3,7 @@ use Rattle.std.specs.Prelude.{◌≡◌, ◌≢◌, ℕ, List, option_map}
 use Rattle.std.specs.List.{AllPairs, AllZip}
 use Rattle.cargo_lock_parts.specs.Identity.{Identity, PackageData}
 use Rattle.cargo_lock_merge_core.specs.Assembled.{IsIdentityAt}
-use Rattle.cargo_lock_merge_core.specs.Commits.{key_without_commit}
+use Rattle.cargo_lock_edges.specs.Nearest.{key_without_commit}
 use Rattle.cargo_lock_merge_core.specs.Placed.{PlacedData}
 
 -- the identities have one name, one version and one source but for the commit: they refer to one

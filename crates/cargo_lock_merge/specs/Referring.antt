@@ -3,7 +3,7 @@ use Rattle.std.specs.Prelude.{◌≡◌, ◌⊎◌, option_map}
 use Rattle.std.specs.List.{AllZip}
 use Rattle.cargo_lock.specs.CargoChecksums.{unpinned}
 use Rattle.cargo_lock_parts.specs.Identity.{Identity, PackageData, identity_of}
-use Rattle.cargo_lock_references.specs.Optional.{BothOrNone}
+use Rattle.cargo_lock_parts.specs.Optional.{BothOrNone}
 
 -- the identity without the commit of its source
 abbrev pub unpinned_identity : Identity → Identity

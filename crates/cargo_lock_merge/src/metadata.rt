@@ -3,7 +3,6 @@
 ghost use Rattle.std.specs.Prelude.{◌≡◌, ◌⊎◌, ℕ, IfOk, IsOkUnless, List, MatchOption, None};
 ghost use Rattle.std.specs.Prelude.{OnOk, Some, if◌then◌else◌, option_copied};
 ghost use Rattle.std.specs.Bool.{Decides};
-ghost use Rattle.cargo_lock.specs.CargoChecksums.{key_from};
 ghost use Rattle.cargo_lock_merge.specs.OwnMetadata.{ChangesAt, IsMergedKey, IsReadyKey, IsSameAt};
 ghost use Rattle.cargo_lock_merge.specs.OwnMetadata.{is_checksum_at, metadata_conflict};
 ghost use Rattle.cargo_lock_merge.specs.OwnMetadata.{own_metadata, value_at_key, without_packages};
@@ -12,11 +11,11 @@ ghost use Rattle.cargo_lock_merge_core.specs.Rule3.{IsAgreed, IsInConflict};
 ghost use Rattle.cargo_lock_parts.specs.declared.error.Error.TheVariants.{Memory};
 ghost use Rattle.cargo_lock_references.specs.Records.{texts_of};
 
+use cargo_lock::lockfile::checksums::checksum_key;
 use cargo_lock::{Lockfile, Metadata, MetadataKey, MetadataValue, ResolveVersion};
 use cargo_lock_merge_core::rule3::{Equal, Side, agreed_side};
-use cargo_lock_parts::dependency::Dependency;
 use cargo_lock_parts::error::Result;
-use cargo_lock_parts::package::{Package, SourceId};
+use cargo_lock_parts::package::Package;
 use std::alloc::{AllocError, Global};
 use std::collections::BTreeMap;
 
@@ -118,19 +117,6 @@ fn remove_checksum(alloc: Global, metadata: &mut Metadata, package: &Package) ->
         }
         None => Ok(()),
     }
-}
-
-// The key of the checksum of a package from this source, without the commit.
-fn checksum_key(alloc: Global, package: &Package, source: &SourceId) -> Result<MetadataKey>
-    ensures ok { IfOk result (λ key. key ≡ key_from «package».now source.now) }
-    ensures err { IsOkUnless result Memory }
-{
-    let dependency = Dependency {
-        name: package.name.clone()?,
-        version: package.version.clone()?,
-        source: Some(source.with_precise(None)?),
-    };
-    MetadataKey::for_checksum(alloc, &dependency)
 }
 
 // ---- what a merge has

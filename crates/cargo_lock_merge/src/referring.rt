@@ -4,7 +4,7 @@ ghost use Rattle.std.specs.Prelude.{◌≡◌, IfOk, IsOkUnless};
 ghost use Rattle.std.specs.List.{AllZip};
 ghost use Rattle.cargo_lock_merge.specs.Referring.{IsReferenceTo, IsReferring, unpinned_identity};
 ghost use Rattle.cargo_lock_parts.specs.declared.error.Error.TheVariants.{Memory};
-ghost use Rattle.cargo_lock_references.specs.Optional.{BothOrNone};
+ghost use Rattle.cargo_lock_parts.specs.Optional.{BothOrNone};
 
 use cargo_lock::ResolveVersion;
 use cargo_lock_parts::dependency::Dependency;

@@ -9,7 +9,8 @@ use Rattle.cargo_lock_parts.specs.Identity.{Identity, PackageData, identity_key,
 use Rattle.lists.proofs.Searches.{chain-on}
 use Rattle.cargo_lock_merge_core.specs.Assembled.{AreAssembled, AreSides, AssembledAreMerge, IsAssembled, IsIdentityAt, IsIdentityAtIf}
 use Rattle.cargo_lock_merge_core.specs.Choices.{IsChecksum, IsOfSide, IsReplacement}
-use Rattle.cargo_lock_merge_core.specs.Commits.{HasCommit, HasOneCommitEach, Lockfiles, key_without_commit}
+use Rattle.cargo_lock_edges.specs.Nearest.{key_without_commit}
+use Rattle.cargo_lock_merge_core.specs.Commits.{HasCommit, HasOneCommitEach, Lockfiles}
 use Rattle.cargo_lock_merge_core.specs.Linked.{IsStatedAt}
 use Rattle.cargo_lock_merge_core.specs.Lists.{AreNumbered, IsNumber, place_at}
 use Rattle.cargo_lock_merge_core.specs.Merge.{IsMerge, IsMergedPackage, LeadsToInMerge, Triple}
@@ -281,12 +282,14 @@ module _ (all : Lockfiles) (places : List Place) (s : Triple ℕ) (sides : AreSi
           (k, q, here, ap (place_at places) (sym at.1) ∙ merged-place y q at.0 built.identity, built.identity ∙ sym is)
 
       stated-by : (k : ℕ) (q : PackageData) (i : Identity) → slice_get ps k ≡ Some q → identity_of q ≡ i → IsStatedAt ps i k
-      stated-by k q i here is = record {
-        one = q;
-        here = here;
-        named = record { name = ap (λ (j : Identity). j.name) (sym is); version = ap (λ (j : Identity). j.version) (sym is) };
-        source = ap (λ (j : Identity). option_map key_without_commit j.source) is;
-      }
+      stated-by k q i here is = (
+        q,
+        here,
+        record {
+          named = record { name = ap (λ (j : Identity). j.name) (sym is); version = ap (λ (j : Identity). j.version) (sym is) };
+          source = ap (λ (j : Identity). option_map key_without_commit j.source) is;
+        },
+      )
 
       built-placed : (x : PlacedData ℕ) (p : PackageData) → Contains m x → IsAssembled m x p → IsPlaced all ps p (put x p)
       unfolding put

@@ -15,6 +15,7 @@ use Rattle.cargo_lock_merge_core.specs.declared.conflicts.Kind.TheVariants.{Chec
 use Rattle.cargo_lock_merge_core.specs.Choices.{IsChosen, IsOfSide}
 use Rattle.cargo_lock_merge_core.specs.Commits.{Lockfiles}
 use Rattle.cargo_lock_merge_core.specs.Conflicts.{IsChosenIf, conflict_of}
+use Rattle.cargo_lock_graph.proofs.EdgesOnce.{last-one}
 use Rattle.cargo_lock_parts.specs.Identity.{PackageData}
 use Rattle.cargo_lock_merge_core.specs.Places.{Place}
 use Rattle.cargo_lock_merge_core.specs.Renaming.{Has, IsOneToOne, IsUsed, rename, rename_all, rename_conflict, rename_triple}
@@ -22,7 +23,7 @@ use Rattle.lists.proofs.Members.{first-in, later-in, map-in}
 use Rattle.cargo_lock_merge_core.proofs.Renamed.{conflict-renamed, have-to, lockfiles-same, merge-renamed, side-used}
 use Rattle.cargo_lock_merge_core.proofs.Renaming.{chosen-of, chosen-to}
 use Rattle.cargo_lock_merge_core.proofs.Sides.{side-at}
-use Rattle.cargo_lock_merge_core.proofs.Slotting.{last-one, numbers-one}
+use Rattle.cargo_lock_merge_core.proofs.Slotting.{numbers-one}
 
 -- ---- the number of a place
 

@@ -3,7 +3,7 @@ use Rattle.std.proofs.Common.{◌≡◌, ◌≢◌, ◌∙◌, ◌⊎◌, ◌<�
 use Rattle.std.specs.List.{AllPairs, Contains}
 use Rattle.std.proofs.lemmas.List.{get_or-map, length-map}
 use Rattle.std.proofs.lemmas.List.Elements.{Contains-get_or}
-use Rattle.cargo_lock_parts.specs.Identity.{Identity, PackageData, identity_key, identity_of}
+use Rattle.cargo_lock_parts.specs.Identity.{Identity, PackageData, identity_key}
 use Rattle.cargo_lock_parts.specs.SourceKey.{Key}
 use Rattle.cargo_lock_merge_core.specs.declared.commits.SourceCommits.{SourceCommits}
 use Rattle.cargo_lock_merge_core.specs.declared.conflicts.Conflict.{Conflict}
@@ -19,7 +19,7 @@ use Rattle.cargo_lock_merge_core.specs.Lists.{AreNumbered, IsNumber, place_at}
 use Rattle.cargo_lock_merge_core.specs.Merge.{HasReference, IsConflict, IsMerge, IsMovedReference, Triple, lockfiles_of}
 use Rattle.cargo_lock_merge_core.specs.Moved.{IsMoved, IsReferenceAt, IsReferenceOf, sides}
 use Rattle.cargo_lock_merge_core.specs.Placed.{HasAt, IsAt, PlacedData, contents_of, key}
-use Rattle.cargo_lock_merge_core.specs.Places.{Place, merge_place}
+use Rattle.cargo_lock_merge_core.specs.Places.{Place}
 use Rattle.cargo_lock_merge_core.specs.Renaming.{IsUsed, rename, rename_all, rename_triple}
 use Rattle.cargo_lock_merge_core.proofs.Assembling.{IsPut, content-from, content-in, content-to, depends-merged, merged-place, number-of, used-number}
 use Rattle.cargo_lock_merge_core.proofs.Backwards.{chosen-at, conflict-number}

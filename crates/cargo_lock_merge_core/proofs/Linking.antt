@@ -1,25 +1,17 @@
 -- To which packages identities refer.
-use Rattle.std.proofs.Common.{◌≡◌, ◌≤◌, ◌++◌, inl, inr, ℕ, true, nat_lt, List, [], ◌∷◌, MatchOption, Option, Some, None, length, slice_get, unwrap_or, sym, ap, subst, ◌∙◌, append_assoc, arith}
-use Rattle.std.specs.List.{AllZip, Contains, filter}
-use Rattle.std.proofs.lemmas.Bool.{cases_Bool, eq-eqb, eqb-true, ltb-true, ltb-false}
-use Rattle.std.proofs.lemmas.List.Elements.{Contains-append_right}
-use Rattle.std.proofs.lemmas.Option.{same_Some, slice_get_within}
-use Rattle.cargo_lock_parts.specs.Identity.{HasNameAndVersion, Identity, PackageData, identity_key, identity_of}
-use Rattle.cargo_lock_graph.specs.Edges.{Edge, GraphData, edges_at, is_at}
-use Rattle.cargo_lock_graph.specs.Targets.{HoldsOf, IsEdgeOf, IsLastBelow, IsTarget, Link, MatchesAt, links, links_of}
-use Rattle.cargo_lock_graph.specs.declared.graph.EdgeDirection.TheVariants.{Outgoing}
-use Rattle.cargo_lock_merge_core.specs.Linked.{AreLinked, AreStatedOnce, AreTargetsAt, IsAlone, IsStatedAt, RefersTo}
-use Rattle.lists.proofs.Members.{first-in, from-reverse, got-in, in-got, in-joined, in-kept, in-map, in-reverse, joined-in, kept-in, map-in}
+use Rattle.std.proofs.Common.{◌≡◌, ◌<◌, ◌+◌, inl, inr, ℕ, false, List, MatchOption, Option, Some, None, get_or, length, slice_get, subst, sym, take}
+use Rattle.std.specs.Prelude.{is_none}
+use Rattle.std.specs.List.{All, AllZip, Contains}
+use Rattle.std.proofs.lemmas.Bool.{false≢true}
+use Rattle.std.proofs.lemmas.List.{take_more}
+use Rattle.std.proofs.lemmas.List.Elements.{All-contains, All-push}
+use Rattle.cargo_lock_parts.specs.Identity.{Identity, PackageData}
+use Rattle.cargo_lock_graph.specs.Targets.{HasTarget, IsLost, IsTarget, Link, links, links_of}
+use Rattle.cargo_lock_graph.proofs.EdgesOnce.{target-one}
+use Rattle.cargo_lock_merge_core.specs.Linked.{AreReferredTo, AreStatedOnce, IsResolved, IsStatedAt, RefersTo}
+use Rattle.lists.proofs.Members.{got-in, in-joined, in-map, joined-in, map-in}
+use Rattle.lists.proofs.Pairs.{all-of}
 use Rattle.cargo_lock_merge_core.proofs.Zipping.{zip-left, zip-right}
-
-pub target-one : (packages : List PackageData) (d : Identity) (j k : ℕ) → IsTarget packages d j → IsTarget packages d k → j ≡ k
-target-one packages d j k a b =
-    let low = a.least k b.rank b.fits in
-    let high = b.least j a.rank a.fits in
-    let same : a.rank ≡ b.rank = omega (arith, low, high) in
-    let back = a.last k (subst (λ r. MatchesAt packages d k r) (sym same) b.fits) in
-    let forth = b.last j (subst (λ r. MatchesAt packages d j r) same a.fits) in
-    omega (arith, back, forth)
 
 pub refers-one : (packages : List PackageData) (i : Identity) (j k : ℕ) → AreStatedOnce packages → RefersTo packages i j → RefersTo packages i k → j ≡ k
 refers-one packages i j k once (inl a) (inl b) = once i j k a b
@@ -28,100 +20,72 @@ refers-one packages i j k once (inr a) (inl b) = absurd (a.0 k b)
 refers-one packages i j k once (inr a) (inr b) = target-one packages i j k a.1 b.1
 
 pub refers-within : (packages : List PackageData) (i : Identity) (k : ℕ) → RefersTo packages i k → (q : PackageData) × (slice_get packages k ≡ Some q)
-refers-within packages i k (inl h) = (h.one, h.here)
+refers-within packages i k (inl h) = (h.0, h.1)
 refers-within packages i k (inr h) = (h.1.fits.0, h.1.fits.1)
 
--- the stated one, or else the one to which it resolves
-pub either-refers : (packages : List PackageData) (i d : Identity) (o : Option ℕ) (to k : ℕ) → k ≡ unwrap_or o to → d ≡ i
-    → MatchOption o ((j : ℕ) → ¬ IsStatedAt packages d j) (IsStatedAt packages d) → IsTarget packages i to → RefersTo packages i k
-either-refers packages i d (Some a) to k is same h target = inl (subst (λ (e : Identity). IsStatedAt packages e k) same (subst (IsStatedAt packages d) (sym is) h))
-either-refers packages i d None to k is same h target = inr (subst (λ (e : Identity). (j : ℕ) → ¬ IsStatedAt packages e j) same h, subst (IsTarget packages i) (sym is) target)
+-- the stated one, or else the one to which it resolves, if there is one
+pub either-refers : (packages : List PackageData) (i : Identity) (o : Option ℕ)
+    → ((j : ℕ) → ¬ IsStatedAt packages i j) → MatchOption o (IsLost packages i) (IsTarget packages i)
+    → MatchOption o (IsLost packages i) (RefersTo packages i)
+either-refers packages i None none lost = lost
+either-refers packages i (Some k) none target = inr (none, target)
 
-module _ (packages : List PackageData) (graph : GraphData) (are : AreLinked packages graph) where
-  abbrev link-of : PackageData → Identity → Link
-  link-of p i = record { from = p; dependency = i }
+-- a dependency that resolves to a package is not lost
+pub resolved-found : (packages : List PackageData) (i : Identity) → IsResolved packages i
+    → ¬ IsLost packages i
+resolved-found packages i (place, target) lost = lost place target.rank target.fits
 
-  -- a dependency of a package is an edge
-  stored-edge : (p : PackageData) (i : Identity) → Contains packages p → Contains p.dependencies i → (e : Edge) × Contains graph.edges e × IsEdgeOf packages (link-of p i) e
-  stored-edge p i h k =
-      zip-left (IsEdgeOf packages) (links packages) graph.edges (link-of p i) are.edges
-      (in-joined links_of packages p (link-of p i) h (in-map (λ d. link-of p d) p.dependencies i k))
+abbrev link-of : PackageData → Identity → Link
+link-of p i = record { from = p; dependency = i }
 
-  -- an edge is a dependency of a package
-  edge-link : (e : Edge) → Contains graph.edges e → (p : PackageData) × (i : Identity) × Contains packages p × Contains p.dependencies i × IsEdgeOf packages (link-of p i) e
-  edge-link e h =
-      let (l, among, is) = zip-right (IsEdgeOf packages) (links packages) graph.edges e are.edges h in
-      let (p, there, from) = joined-in links_of packages l among in
-      let (i, depends, same) = map-in (λ d. link-of p d) p.dependencies l from in
-      (p, i, there, depends, subst (λ (m : Link). IsEdgeOf packages m e) (sym same) is)
+-- so does each dependency of a package of the list, if each of all packages does
+pub resolved-at : (packages : List PackageData) (at : ℕ) (p : PackageData)
+    → slice_get packages at ≡ Some p → All (HasTarget packages) (links packages)
+    → All (IsResolved packages) p.dependencies
+resolved-at packages at p here all = all-of (IsResolved packages) p.dependencies
+    (λ i depends. All-contains (HasTarget packages) (links packages) (link-of p i) all
+    (in-joined links_of packages p (link-of p i) (got-in packages at p here)
+    (in-map (link-of p) p.dependencies i depends)))
 
-  stored-at : (at : ℕ) (e : Edge) → Contains (edges_at Outgoing graph.edges at) e → Contains graph.edges e × (is_at Outgoing at e ≡ true)
-  stored-at at e h = kept-in (is_at Outgoing at) graph.edges e (from-reverse (filter (is_at Outgoing at) graph.edges) e h)
+-- the indices to which the dependencies of a package refer, in their order
+pub targets-are : (packages : List PackageData) (p : PackageData) (targets : List ℕ)
+    → AllZip (RefersTo packages) p.dependencies targets → AreReferredTo packages p targets
+targets-are packages p targets zip = record {
+  found = λ i depends.
+      let (k, there, refers) = zip-left (RefersTo packages) p.dependencies targets i zip depends in
+      (k, refers);
+  are = λ once k. (
+    λ h. zip-right (RefersTo packages) p.dependencies targets k zip h,
+    λ h.
+        let r = zip-left (RefersTo packages) p.dependencies targets h.0 zip h.1 in
+        subst (λ n. Contains targets n) (refers-one packages h.0 r.0 k once r.2 h.2) r.1,
+  );
+}
 
-  -- an edge leads to the package to which its dependency resolves
-  pub edge-target : (at : ℕ) (front rest : List Edge) (e : Edge) → (front ++ e ∷ []) ++ rest ≡ edges_at Outgoing graph.edges at → IsTarget packages e.dependency e.to
-  edge-target at front rest e joined =
-      let among : Contains (edges_at Outgoing graph.edges at) e = subst (λ (es : List Edge). Contains es e) (sym (append_assoc front (e ∷ []) rest) ∙ joined)
-      (Contains-append_right front (e ∷ rest) e (first-in e rest)) in
-      let (p, i, there, depends, edge) = edge-link e (stored-at at e among).0 in
-      subst (λ (d : Identity). IsTarget packages d e.to) (sym edge.dependency) edge.to
+-- ---- dependencies that are looked up one by one
 
-  pub targets-are : (at : ℕ) (targets : List ℕ) → AllZip (λ e k. RefersTo packages e.dependency k) (edges_at Outgoing graph.edges at) targets → AreTargetsAt packages at targets
-  targets-are at targets zip p here = record {
-    found = λ alone i depends. let r = of-dependency alone i depends in (r.0, r.2);
-    are = λ alone once k. (
-      λ h.
-          let (e, among, refers) = zip-right R (edges_at Outgoing graph.edges at) targets k zip h in
-          let (stored, starts) = stored-at at e among in
-          let (q, i, there, depends, edge) = edge-link e stored in
-          let (j, at-j) = in-got packages q there in
-          let held = edge.from.1 in
-          let start : e.from ≡ at = eqb-true e.from at starts in
-          let same-start : held.0 ≡ p = same_Some held.0 p (sym held.1 ∙ ap (slice_get packages) start ∙ here) in
-          let keys : identity_key (identity_of q) ≡ identity_key (identity_of p) = sym held.2 ∙ ap (λ (r : PackageData). identity_key (identity_of r)) same-start in
-          let q-is : q ≡ p = same_Some q p (sym at-j ∙ ap (slice_get packages) (alone j q at-j keys) ∙ here) in
-          (i, subst (λ (r : PackageData). Contains r.dependencies i) q-is depends, subst (λ (d : Identity). RefersTo packages d k) edge.dependency refers),
-      λ h.
-          let r = of-dependency alone h.0 h.1 in
-          subst (λ n. Contains targets n) (refers-one packages h.0 r.0 k once r.2 h.2) r.1,
-    );
-  }
-    where
-      R : Edge → ℕ → Type 0
-      R e k = RefersTo packages e.dependency k
+-- one more
+pub all-more : {X : Type 0} (P : X → Type 0) (xs : List X) (i : ℕ) (x : X) → i < length xs
+    → x ≡ get_or xs i x → All P (take i xs) → P x → All P (take (i + 1) xs)
+all-more {X} P xs i x low is all one =
+    subst (All P) (sym (take_more xs i x low))
+    (All-push P (take i xs) (get_or xs i x) all (subst P is one))
 
-      of-dependency : IsAlone packages at p → (i : Identity) → Contains p.dependencies i → (k : ℕ) × Contains targets k × RefersTo packages i k
-      of-dependency alone i depends =
-          let (e, stored, edge) = stored-edge p i (got-in packages at p here) depends in
-          let start : e.from ≡ at = alone e.from edge.from.1.0 edge.from.1.1 edge.from.1.2 in
-          let among = in-reverse (filter (is_at Outgoing at) graph.edges) e (in-kept (is_at Outgoing at) graph.edges e stored (eq-eqb e.from at start)) in
-          let (k, there, refers) = zip-left R (edges_at Outgoing graph.edges at) targets e zip among in
-          (k, there, subst (λ (d : Identity). RefersTo packages d k) edge.dependency refers)
+-- where something is found, there is what it says
+pub found-at : (P : Type 0) (Q : ℕ → Type 0) (o : Option ℕ) → is_none o ≡ false
+    → MatchOption o P Q → (k : ℕ) × Q k
+found-at P Q None some h = absurd (false≢true (sym some))
+found-at P Q (Some k) some h = (k, h)
 
--- ---- the one that is stated
-
-module _ (packages : List PackageData) (i : Identity) where
-  stated-named : (k : ℕ) → IsStatedAt packages i k → HoldsOf (HasNameAndVersion i) packages k
-  stated-named k h = (h.one, h.here, h.named)
-
-  pub none-past : (k : ℕ) → length packages ≤ k → ¬ IsStatedAt packages i k
-  none-past k past h = let low = slice_get_within packages k h.one h.here in omega (arith, past, low)
-
-  pub none-more : (bound at : ℕ) → IsLastBelow (HoldsOf (HasNameAndVersion i) packages) bound (Some at) → ((k : ℕ) → bound ≤ k → ¬ IsStatedAt packages i k) → ¬ IsStatedAt packages i at
-      → (k : ℕ) → at ≤ k → ¬ IsStatedAt packages i k
-  none-more bound at last none here k from h = elim (cases_Bool (nat_lt at k)) [
-    | inl after ↦ elim (cases_Bool (nat_lt k bound)) [
-      | inl below ↦ last.2 k (ltb-true at k after) (ltb-true k bound below) (stated-named k h)
-      | inr past ↦ none k (ltb-false k bound past) h
-    ]
-    | inr miss ↦
-        let m = ltb-false at k miss in
-        let same : k ≡ at = omega (arith, m, from) in
-        here (subst (λ n. IsStatedAt packages i n) same h)
-  ]
-
-  pub none-all : (bound : ℕ) → IsLastBelow (HoldsOf (HasNameAndVersion i) packages) bound None → ((k : ℕ) → bound ≤ k → ¬ IsStatedAt packages i k) → (k : ℕ) → ¬ IsStatedAt packages i k
-  none-all bound last none k h = elim (cases_Bool (nat_lt k bound)) [
-    | inl below ↦ last k (ltb-true k bound below) (stated-named k h)
-    | inr past ↦ none k (ltb-false k bound past) h
-  ]
+-- where each dependency of each package resolves, each link has its target
+pub links-resolved : (packages ps : List PackageData)
+    → All (λ (p : PackageData). All (IsResolved packages) p.dependencies) ps
+    → All (HasTarget packages) (links ps)
+links-resolved packages ps all = all-of (HasTarget packages) (links ps)
+    (λ l among.
+    let (p, there, from) = joined-in links_of ps l among in
+    let (i, depends, same) = map-in (λ d. link-of p d) p.dependencies l from in
+    subst (HasTarget packages) same
+    (All-contains (IsResolved packages) p.dependencies i
+    (All-contains (λ (q : PackageData). All (IsResolved packages) q.dependencies) ps p all there)
+    depends))

@@ -1,5 +1,5 @@
 -- Two listings of the same packages at their places have the same merge and the same conflicts.
-use Rattle.std.proofs.Common.{◌≡◌, ◌∙◌, ◌⊎◌, ◌↔◌, inl, inr, ℕ, Bool, true, false, cond, List, [], ◌∷◌, Option, Some, None, ap, map, option_map, refl, slice_get, subst, sym}
+use Rattle.std.proofs.Common.{◌≡◌, ◌∙◌, ◌⊎◌, ◌↔◌, inl, inr, ℕ, Bool, true, false, cond, List, Option, Some, None, ap, option_map, refl, slice_get, subst, sym}
 use Rattle.std.specs.Prelude.{◌||◌, count_by, nat_lt}
 use Rattle.std.specs.List.{Contains}
 use Rattle.std.specs.declared.cmp.Ordering.TheVariants.{Less}
@@ -9,16 +9,17 @@ use Rattle.cargo_lock_parts.specs.IdentityOrder.{is_same_identity, version_cmp}
 use Rattle.cargo_lock_parts.specs.SourceKey.{Key}
 use Rattle.cargo_lock_merge_core.specs.ByPlaces.{AreAllPlaced}
 use Rattle.cargo_lock_merge_core.specs.Choices.{AreAbove, AreOfGit, Counts, DependsOn, HasLowerVersion, IsByCommit, IsByRule, IsChecksum, IsChecksumConflict, IsChosen, IsClash, IsDependency, IsDependencyOf, IsGreater, IsOfGit, IsOfRegistry, IsOfSide, IsReplacement, IsReplacementConflict, checksum_if, if_same, replacement_if}
-use Rattle.cargo_lock_merge_core.specs.Commits.{HasCommit, IsAtMergedCommit, IsAtSource, IsCommitIn, IsSourceConflict, Lockfiles, git_in, key_without_commit}
+use Rattle.cargo_lock_edges.specs.Nearest.{key_without_commit}
+use Rattle.cargo_lock_merge_core.specs.Commits.{HasCommit, IsAtMergedCommit, IsAtSource, IsCommitIn, IsSourceConflict, Lockfiles, git_in}
 use Rattle.cargo_lock_merge_core.specs.Linked.{IsStatedAt}
 use Rattle.cargo_lock_merge_core.specs.Listings.{ListingsAreSymmetric, ListingsHaveOneConflict, ListingsHaveOneMerge, ListingsHaveOneMoved, MergeOfListsIsSymmetric, MergeOfListsIsUnique, exchanged_sides}
 use Rattle.cargo_lock_merge_core.specs.Merge.{ConflictData, HasReference, HaveAt, IsConflict, IsMerge, IsMergedPackage, IsMovedReference, IsReachedInMerge, IsRootOfMerge, LeadsToInMerge, OfChecksum, OfPackage, OfReplacement, OfSource, Triple, lockfiles_of}
-use Rattle.cargo_lock_merge_core.specs.Placed.{HasAt, HasMember, IsAt, PlacedData, contents_of, key, key_if}
+use Rattle.cargo_lock_merge_core.specs.Placed.{HasMember, IsAt, PlacedData, contents_of, key, key_if}
 use Rattle.cargo_lock_merge_core.specs.Places.{ArePlaced, IsMergeOf, IsPlaceIn, IsPlaced, IsReplacementIn, Place, has_several, is_member_named, merge_place, version_in}
 use Rattle.cargo_lock_merge_core.specs.Rule3.{IsAgreed, IsDisputed, IsInConflict, IsMergedValue}
 use Rattle.cargo_lock_merge_core.proofs.Alike.{merge-once}
 use Rattle.cargo_lock_merge_core.proofs.Kept.{kept-alike}
-use Rattle.cargo_lock_merge_core.proofs.Linking.{target-one}
+use Rattle.cargo_lock_graph.proofs.EdgesOnce.{target-one}
 use Rattle.lists.proofs.Members.{in-map, map-in}
 use Rattle.cargo_lock_merge_core.proofs.Relisted.{are-placed}
 use Rattle.cargo_lock_merge_core.proofs.Sides.{chain-flip, merge-flip}
@@ -429,10 +430,10 @@ module _ {P : Type 0} where
 module _ (all : Lockfiles) (packages : List PackageData) where
   stated-place : (i : Identity) (j k : ℕ) (a b : PackageData) → IsStatedAt packages i j → IsStatedAt packages i k → slice_get packages j ≡ Some a → slice_get packages k ≡ Some b → merge_place all a ≡ merge_place all b
   stated-place i j k a b sa sb here there =
-      let ea : a ≡ sa.one = same_Some a sa.one (sym here ∙ sa.here) in
-      let eb : b ≡ sb.one = same_Some b sb.one (sym there ∙ sb.here) in
+      let ea : a ≡ sa.0 = same_Some a sa.0 (sym here ∙ sa.1) in
+      let eb : b ≡ sb.0 = same_Some b sb.0 (sym there ∙ sb.1) in
       ap (merge_place all) ea
-      ∙ place-stated all sa.one sb.one (sym sa.named.name ∙ sb.named.name) (sym sa.named.version ∙ sb.named.version) (sa.source ∙ sym sb.source)
+      ∙ place-stated all sa.0 sb.0 (sym sa.2.named.name ∙ sb.2.named.name) (sym sa.2.named.version ∙ sb.2.named.version) (sa.2.source ∙ sym sb.2.source)
       ∙ ap (merge_place all) (sym eb)
 
   one-place : (i : Identity) (p q : Place) → IsPlaceIn all packages i p → IsPlaceIn all packages i q → p ≡ q

@@ -7,7 +7,8 @@ use Rattle.std.proofs.lemmas.Option.{same_Some}
 use Rattle.cargo_lock_parts.specs.Identity.{PackageData}
 use Rattle.cargo_lock_parts.specs.Source.{Kind, Source, Git, Path, Registry, SparseRegistry, LocalRegistry, Directory, is_git}
 use Rattle.cargo_lock_parts.specs.SourceKey.{Key, key_of, precise_if_git}
-use Rattle.cargo_lock_merge_core.specs.Commits.{AreCommits, HasCommit, HasOneCommitEach, IsCommitIn, IsMergedCommit, Lockfiles, git_in, key_without_commit}
+use Rattle.cargo_lock_edges.specs.Nearest.{key_without_commit}
+use Rattle.cargo_lock_merge_core.specs.Commits.{AreCommits, HasCommit, HasOneCommitEach, IsCommitIn, IsMergedCommit, Lockfiles, git_in}
 use Rattle.cargo_lock_merge_core.specs.CommitMaps.{IsCommitPut, commit_if}
 use Rattle.cargo_lock_merge_core.specs.Rule3.{IsMergedValue}
 use Rattle.cargo_lock_merge_core.proofs.Agreeing.{agreed-once}

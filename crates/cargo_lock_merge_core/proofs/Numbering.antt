@@ -14,7 +14,8 @@ use Rattle.cargo_lock_graph.specs.Targets.{IsLastBelow}
 use Rattle.cargo_lock_graph.proofs.BestCandidates.{last-new, last-same}
 use Rattle.cargo_lock_merge_core.specs.declared.numbers.Spot.{Spot}
 use Rattle.cargo_lock_merge_core.specs.declared.place.Located.{Located}
-use Rattle.cargo_lock_merge_core.specs.Commits.{Lockfiles, key_without_commit}
+use Rattle.cargo_lock_edges.specs.Nearest.{key_without_commit}
+use Rattle.cargo_lock_merge_core.specs.Commits.{Lockfiles}
 use Rattle.cargo_lock_merge_core.specs.Located.{IsLocated}
 use Rattle.cargo_lock_merge_core.specs.Numbers.{AreLast, spot_place, spot_places}
 use Rattle.cargo_lock_merge_core.specs.Places.{Place, has_several, merge_place, version_in}

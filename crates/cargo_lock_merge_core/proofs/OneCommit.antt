@@ -11,7 +11,8 @@ use Rattle.cargo_lock_parts.specs.Identity.{PackageData}
 use Rattle.cargo_lock_parts.specs.Source.{Source, is_git}
 use Rattle.cargo_lock_parts.specs.SourceKey.{Key, key_of, source_cmp}
 use Rattle.cargo_lock_merge_core.specs.CommitMaps.{AreCommitsOf, AreSourcesOf, HasPutCommit, HasPutSource, IsBareGit, IsOnce, IsPutSource, commit_if}
-use Rattle.cargo_lock_merge_core.specs.Commits.{HasCommit, HasOneCommitEach, HasSource, IsCommitIn, commit_in, git_in, key_without_commit}
+use Rattle.cargo_lock_edges.specs.Nearest.{key_without_commit}
+use Rattle.cargo_lock_merge_core.specs.Commits.{HasCommit, HasOneCommitEach, HasSource, IsCommitIn, commit_in, git_in}
 use Rattle.cargo_lock_merge_core.specs.Refusals.{IsApartOrMemory, IsTwoOrMemory}
 use Rattle.cargo_lock_merge_core.specs.declared.refusal.Fault.{Fault}
 use Rattle.cargo_lock_merge_core.specs.declared.refusal.Fault.TheVariants.{Memory, Refused}

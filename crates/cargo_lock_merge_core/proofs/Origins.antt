@@ -1,15 +1,15 @@
 -- Where what a merge has comes from, and what it is where a side did not change.
-use Rattle.std.proofs.Common.{◌≡◌, ◌∙◌, ◌⊎◌, inl, inr, Bool, true, false, cond, List, Option, Some, None, ap, option_map, refl, subst, sym}
+use Rattle.std.proofs.Common.{◌≡◌, ◌∙◌, ◌⊎◌, inl, inr, Bool, cond, Option, Some, None, ap, option_map, refl, subst, sym}
 use Rattle.std.proofs.lemmas.Bool.{cases_Bool}
 use Rattle.std.proofs.lemmas.Option.{same_Some}
-use Rattle.cargo_lock_parts.specs.Identity.{PackageData, identity_key, identity_of}
+use Rattle.cargo_lock_parts.specs.Identity.{identity_key, identity_of}
 use Rattle.cargo_lock_parts.specs.IdentityLaws.{is_same_identity-Decides}
 use Rattle.cargo_lock_parts.specs.IdentityOrder.{is_same_identity}
 use Rattle.cargo_lock_merge_core.specs.ByPlaces.{AreAllPlaced}
 use Rattle.cargo_lock_merge_core.specs.Choices.{if_same}
 use Rattle.cargo_lock_merge_core.specs.LawsOfMerges.{triple}
-use Rattle.cargo_lock_merge_core.specs.Origins.{ChecksumsAreOfSides, HasChecksumOf, MergeOfListsWithBase, MergeOfListsWithItself, lists}
-use Rattle.cargo_lock_merge_core.specs.Placed.{HasAt, IsAt, PlacedData, key}
+use Rattle.cargo_lock_merge_core.specs.Origins.{ChecksumsAreOfSides, MergeOfListsWithBase, MergeOfListsWithItself, lists}
+use Rattle.cargo_lock_merge_core.specs.Placed.{IsAt, PlacedData, key}
 use Rattle.cargo_lock_merge_core.specs.Places.{Place}
 use Rattle.cargo_lock_merge_core.specs.Rule3.{IsMergedValue}
 use Rattle.cargo_lock_merge_core.proofs.Listings.{one-merge}

@@ -10,7 +10,8 @@ use Rattle.cargo_lock_parts.specs.Source.{Source, is_git}
 use Rattle.cargo_lock_parts.specs.SourceKey.{Key, key_of, source_cmp}
 use Rattle.cargo_lock_parts.specs.SourceLaws.{is_same_source-Decides}
 use Rattle.cargo_lock_merge_core.specs.declared.placed.Placed.{Placed}
-use Rattle.cargo_lock_merge_core.specs.Commits.{commit_in, git_in, key_without_commit}
+use Rattle.cargo_lock_edges.specs.Nearest.{key_without_commit}
+use Rattle.cargo_lock_merge_core.specs.Commits.{commit_in, git_in}
 use Rattle.cargo_lock_merge_core.specs.CommitMaps.{IsCommitPut, IsPutSource, commit_if}
 use Rattle.cargo_lock_merge_core.specs.Numbered.{all_data}
 use Rattle.cargo_lock_merge_core.specs.Placed.{contents_of}

@@ -2,7 +2,7 @@
 use Rattle.std.proofs.Common.{◌≡◌, ◌≢◌, ◌<◌, ◌+◌, ◌⊎◌, ◌++◌, inl, inr, ℕ, Bool, nat_lt, if◌then◌else◌, List, [], ◌∷◌, length, get_or, map, replicate, set, slice_get, Option, Some, None, option_map, refl, sym, ap, subst, ◌∙◌, arith}
 use Rattle.std.specs.List.{AllPairs, Contains}
 use Rattle.std.specs.List.Sorted.{IsStrictlyIncreasing}
-use Rattle.std.proofs.lemmas.Bool.{cases_Bool, cases_eq, cases_order, ltb-true, ltb-false}
+use Rattle.std.proofs.lemmas.Bool.{cases_Bool, cases_eq, ltb-true, ltb-false}
 use Rattle.std.proofs.lemmas.List.{get_or-map, get_or-replicate, get_or-set_other, get_or-set_same, length-map, length-replicate}
 use Rattle.std.proofs.Math.ListN.{length-set}
 use Rattle.std.proofs.lemmas.List.Elements.{Contains-append_cases, Contains-append_left, Contains-append_right, Contains-get_or}
@@ -11,9 +11,9 @@ use Rattle.std.proofs.lemmas.Option.{get_or_from_slice_get, same_Some, slice_get
 use Rattle.cargo_lock_parts.specs.Identity.{Identity, IdentityKey, PackageData, identity_key, identity_of}
 use Rattle.cargo_lock_parts.specs.Source.{Source, is_git}
 use Rattle.cargo_lock_parts.specs.SourceKey.{Key, key_of}
-use Rattle.cargo_lock_graph.specs.Targets.{IsLastBelow}
-use Rattle.cargo_lock_merge_core.specs.Commits.{Lockfiles, key_without_commit}
-use Rattle.cargo_lock_merge_core.specs.Linked.{AreStatedOnce, IsAlone}
+use Rattle.cargo_lock_edges.specs.Nearest.{key_without_commit}
+use Rattle.cargo_lock_merge_core.specs.Commits.{Lockfiles}
+use Rattle.cargo_lock_merge_core.specs.Linked.{AreStatedOnce}
 use Rattle.cargo_lock_merge_core.specs.Lists.{AreNumbered, AreSlots, BeginsAt, HasReplacement, IsLastAt, IsNumber, IsNumberAt, IsNumberedAt, IsReplaced, no_place, place_at, replaced_place}
 use Rattle.cargo_lock_merge_core.specs.Numbered.{place_number, place_numbers}
 use Rattle.cargo_lock_merge_core.specs.Placed.{HasOneAtEach, PlacedData}
@@ -24,15 +24,9 @@ use Rattle.cargo_lock_merge_core.specs.declared.numbered.Replaced.TheVariants.{A
 use Rattle.cargo_lock_merge_core.specs.Renaming.{Has, rename, rename_all}
 use Rattle.cargo_lock_merge_core.proofs.Ascending.{far-below, up-push}
 use Rattle.cargo_lock_merge_core.proofs.Linking.{refers-within}
+use Rattle.cargo_lock_graph.proofs.EdgesOnce.{last-one}
 use Rattle.lists.proofs.Members.{contains-cases, first-in, got-in, in-got, in-map, map-in, none-in}
 use Rattle.cargo_lock_merge_core.proofs.Planning.{map-push}
-
-pub last-one : (P : ℕ → Type 0) (bound j k : ℕ) → IsLastBelow P bound (Some j) → IsLastBelow P bound (Some k) → j ≡ k
-last-one P bound j k a b = elim (cases_order j k) [
-  | inl same ↦ same
-  | inr (inl less) ↦ absurd (a.2 k less b.0 b.1)
-  | inr (inr more) ↦ absurd (b.2 j more a.0 a.1)
-]
 
 at-most : (n i : ℕ) → n < i + 1 → (n < i) ⊎ (n ≡ i)
 at-most n i low = elim (cases_Bool (nat_lt n i)) [
@@ -85,9 +79,6 @@ module _ (places : List Place) where
           let at-n = (are.each n j).1 (low-j, number) in
           let at-n' = (are.each n k).1 (low-k, moved) in
           same_Some j k (same_Some (Some j) (Some k) (sym at-n ∙ at-n'))
-
-      pub alone-there : (k : ℕ) (p : PackageData) → slice_get packages k ≡ Some p → ((q : PackageData) → identity_key (identity_of q) ≡ identity_key (identity_of p) → merge_place all q ≡ merge_place all p) → IsAlone packages k p
-      alone-there k p at same j q at-j keys = one-there j k q p at-j at (same q keys)
 
 -- ---- places by keys of identities
 
@@ -207,11 +198,8 @@ module _ (places : List Place) (offset : ℕ) (packages : List PackageData) (slo
   module _ (xs : List (PlacedData ℕ)) (are : AreSlots places offset (length packages) slots) (h : AreFirst places offset packages slots (length places) xs) (all : Lockfiles) (begins : BeginsAt all places packages offset) where
     -- packages of one name, version and source but for the commit are at one place
     stated-once : AreStatedOnce packages
-    stated-once i j k a b = one-there places offset packages slots are all begins j k a.one b.one a.here b.here
-        (place-stated all a.one b.one (sym a.named.name ∙ b.named.name) (sym a.named.version ∙ b.named.version) (a.source ∙ sym b.source))
-
-    alone : (k : ℕ) (x : PlacedData ℕ) → IsNumberedAt places offset packages k x → IsAlone packages k x.content
-    alone k x one = alone-there places offset packages slots are all begins k x.content one.content (λ q keys. place-of-key all q x.content keys)
+    stated-once i j k a b = one-there places offset packages slots are all begins j k a.0 b.0 a.1 b.1
+        (place-stated all a.0 b.0 (sym a.2.named.name ∙ b.2.named.name) (sym a.2.named.version ∙ b.2.named.version) (a.2.source ∙ sym b.2.source))
 
     -- what a package refers to has a number
     place-number : (x : PlacedData ℕ) → Contains xs x → IsNumber places x.place
@@ -220,7 +208,7 @@ module _ (places : List Place) (offset : ℕ) (packages : List PackageData) (slo
     depends-number : (x : PlacedData ℕ) (n : ℕ) → Contains xs x → Contains x.dependencies n → IsNumber places n
     depends-number x n among depends =
         let (k, at, one) = h.each x among in
-        let (t, target, number) = (one.dependencies (alone k x one) stated-once n).0 depends in
+        let (t, target, number) = (one.dependencies stated-once n).0 depends in
         number-is places (offset + t) n number
 
     replaced-number : (x : PlacedData ℕ) (n : ℕ) → Contains xs x → x.replacement ≡ Some n → IsNumber places n
@@ -246,16 +234,16 @@ module _ (places : List Place) (offset : ℕ) (packages : List PackageData) (slo
       place = to-place k x.place x.content one.content one.place;
       content = refl;
       found = λ i depends.
-          let (t, target) = one.found (alone k x one) i depends in
+          let (t, target) = one.found i depends in
           let (q, at) = refers-within packages i t target in
           let (n, number) = are.all_there t (slice_get_within packages t q at) in (
             place_at places n,
             (t, q, target, at, to-place t n q at number),
-            in-map (place_at places) x.dependencies n ((one.dependencies (alone k x one) stated-once n).1 (t, (i, depends, target), number)),
+            in-map (place_at places) x.dependencies n ((one.dependencies stated-once n).1 (t, (i, depends, target), number)),
           );
       dependencies = λ d among.
           let (n, depends, is) = map-in (place_at places) x.dependencies d among in
-          let (t, (i, listed, target), number) = (one.dependencies (alone k x one) stated-once n).0 depends in
+          let (t, (i, listed, target), number) = (one.dependencies stated-once n).0 depends in
           let (q, at) = refers-within packages i t target in
           (i, listed, (t, q, target, at, sym is ∙ to-place t n q at number));
       replacement = replaced x.content.replace x.replacement one.replacement;
@@ -264,7 +252,7 @@ module _ (places : List Place) (offset : ℕ) (packages : List PackageData) (slo
         replaced : (r : Option Identity) (n : Option ℕ) → HasReplacement places offset packages r n → IsReplacementIn all packages r (option_map (place_at places) n)
         replaced None n e = ap (option_map (place_at places)) e
         replaced (Some i) None e = absurd e
-        replaced (Some i) (Some n) (t, stated, number) = (t, stated.one, stated, stated.here, to-place t n stated.one stated.here number)
+        replaced (Some i) (Some n) (t, stated, number) = (t, stated.0, stated, stated.1, to-place t n stated.0 stated.1 number)
 
     are-distinct : AllPairs (λ p q. merge_place all p ≢ merge_place all q) packages
     are-distinct i j d less low same =

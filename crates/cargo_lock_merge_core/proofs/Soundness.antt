@@ -6,7 +6,8 @@ use Rattle.cargo_lock_parts.specs.Identity.{Identity, PackageData}
 use Rattle.cargo_lock_parts.specs.Source.{Source}
 use Rattle.cargo_lock_parts.specs.SourceKey.{Key}
 use Rattle.lists.proofs.Members.{in-map, map-in}
-use Rattle.cargo_lock_merge_core.specs.Commits.{HasOneCommitEach, IsMergedCommit, Lockfiles, commit_in, git_in, key_without_commit}
+use Rattle.cargo_lock_edges.specs.Nearest.{key_without_commit}
+use Rattle.cargo_lock_merge_core.specs.Commits.{HasOneCommitEach, IsMergedCommit, Lockfiles, commit_in, git_in}
 use Rattle.cargo_lock_merge_core.specs.Laws.{HaveOneAtEach}
 use Rattle.cargo_lock_merge_core.specs.LawsOfMerges.{AreLockfiles, HasNoOrphan, HaveOneCommitEach, IsLockfile, IsSoundByPlaces}
 use Rattle.cargo_lock_merge_core.specs.Merge.{ConflictData, IsConflict, IsMerge, IsRootOfMerge, OfChecksum, OfPackage, OfReplacement, OfSource, Triple, lockfiles_of}

@@ -5,7 +5,8 @@ use Rattle.std.proofs.lemmas.Option.{same_Some}
 use Rattle.cargo_lock_parts.specs.Identity.{PackageData}
 use Rattle.cargo_lock_parts.specs.Source.{Source, is_git}
 use Rattle.cargo_lock_parts.specs.SourceKey.{Key}
-use Rattle.cargo_lock_merge_core.specs.Commits.{AreCommits, HasOneCommitEach, IsCommitIn, IsMergedCommit, Lockfiles, git_in, key_without_commit}
+use Rattle.cargo_lock_edges.specs.Nearest.{key_without_commit}
+use Rattle.cargo_lock_merge_core.specs.Commits.{AreCommits, HasOneCommitEach, IsCommitIn, IsMergedCommit, Lockfiles, git_in}
 use Rattle.cargo_lock_merge_core.specs.LawsOfMerges.{HaveOneCommitEach}
 use Rattle.cargo_lock_merge_core.specs.Placed.{HasAt, PlacedData}
 use Rattle.cargo_lock_merge_core.specs.Places.{Place}

@@ -3,7 +3,8 @@ use Rattle.std.proofs.Common.{◌≡◌, Bool, true, false, Option, Some, refl, 
 use Rattle.std.specs.Bool.{Decides}
 use Rattle.cargo_lock_parts.specs.Source.{Source, is_git}
 use Rattle.cargo_lock_parts.specs.SourceKey.{Key}
-use Rattle.cargo_lock_merge_core.specs.Commits.{git_in, key_without_commit}
+use Rattle.cargo_lock_edges.specs.Nearest.{key_without_commit}
+use Rattle.cargo_lock_merge_core.specs.Commits.{git_in}
 
 no-git : (s : Source) (g : Key) → is_git s.kind ≡ false → ¬ (git_in (Some s) ≡ Some g)
 no-git s g e h = absurd (let n = rw e at h in cc)

@@ -5,7 +5,8 @@ use Rattle.std.specs.BTreeMap.{BTreeMap, get}
 use Rattle.cargo_lock_parts.specs.Identity.{PackageData}
 use Rattle.cargo_lock_parts.specs.Source.{Source, is_git}
 use Rattle.cargo_lock_parts.specs.SourceKey.{Key, key_of, source_cmp}
-use Rattle.cargo_lock_merge_core.specs.Commits.{HasSource, IsCommitIn, commit_in, git_in, key_without_commit}
+use Rattle.cargo_lock_edges.specs.Nearest.{key_without_commit}
+use Rattle.cargo_lock_merge_core.specs.Commits.{HasSource, IsCommitIn, commit_in, git_in}
 
 -- a git source without its commit
 pub record IsBareGit (s : Source) : Type 0 where

@@ -3,12 +3,9 @@ use Rattle.std.specs.Prelude.{◌≡◌, ℕ, List, Option, Some, None, option_m
 use Rattle.std.specs.List.{Contains}
 use Rattle.cargo_lock_parts.specs.Identity.{PackageData}
 use Rattle.cargo_lock_parts.specs.Source.{Source, is_git}
-use Rattle.cargo_lock_parts.specs.SourceKey.{Key, key_of}
+use Rattle.cargo_lock_parts.specs.SourceKey.{Key}
+use Rattle.cargo_lock_edges.specs.Nearest.{key_without_commit}
 use Rattle.cargo_lock_merge_core.specs.Rule3.{IsDisputed, IsMergedValue}
-
--- what distinguishes a source from others, without its commit
-abbrev pub key_without_commit : Source → Key
-key_without_commit s = record (key_of s) { precise = None }
 
 -- the git source of a package without its commit, if the package has one
 abbrev pub git_in : Option Source → Option Key

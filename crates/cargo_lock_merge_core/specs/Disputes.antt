@@ -12,7 +12,7 @@ use Rattle.cargo_lock_merge_core.specs.declared.plan.Plan.{Plan}
 use Rattle.cargo_lock_merge_core.specs.declared.rows.Row.{Row}
 use Rattle.cargo_lock_merge_core.specs.CommitMaps.{IsBareGit, commit_if}
 use Rattle.cargo_lock_merge_core.specs.Commits.{AreCommits, IsSourceConflict, Lockfiles, git_in}
-use Rattle.cargo_lock_merge_core.specs.Commits.{key_without_commit}
+use Rattle.cargo_lock_edges.specs.Nearest.{key_without_commit}
 use Rattle.cargo_lock_merge_core.specs.LawsOfMerges.{HaveOneCommitEach}
 use Rattle.cargo_lock_merge_core.specs.Merge.{IsConflict, OfSource, Triple, lockfiles_of}
 use Rattle.cargo_lock_merge_core.specs.Numbered.{data_if}

@@ -6,7 +6,7 @@ use Rattle.cargo_lock_parts.specs.Identity.{PackageData}
 use Rattle.lists.specs.Chains.{IsReachedFrom}
 use Rattle.cargo_lock_merge_core.specs.Choices.{IsOfGit}
 use Rattle.cargo_lock_merge_core.specs.Commits.{HasOneCommitEach, Lockfiles, commit_in}
-use Rattle.cargo_lock_merge_core.specs.Commits.{key_without_commit}
+use Rattle.cargo_lock_edges.specs.Nearest.{key_without_commit}
 use Rattle.cargo_lock_merge_core.specs.Laws.{HaveOneAtEach}
 use Rattle.cargo_lock_merge_core.specs.Merge.{ConflictData, IsConflict, IsMerge, IsMovedReference}
 use Rattle.cargo_lock_merge_core.specs.Merge.{IsReachedInMerge, Triple}

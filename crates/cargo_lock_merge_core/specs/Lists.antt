@@ -9,7 +9,7 @@ use Rattle.cargo_lock_merge_core.specs.declared.numbered.Numbered.{Numbered}
 use Rattle.cargo_lock_merge_core.specs.declared.numbered.Replaced.{Replaced}
 use Rattle.cargo_lock_merge_core.specs.declared.numbered.Replaced.TheVariants.{At, Lost, Not}
 use Rattle.cargo_lock_merge_core.specs.Commits.{Lockfiles}
-use Rattle.cargo_lock_merge_core.specs.Linked.{AreStatedOnce, IsAlone, IsStatedAt, IsTargetOf, RefersTo}
+use Rattle.cargo_lock_merge_core.specs.Linked.{AreStatedOnce, IsStatedAt, IsTargetOf, RefersTo}
 use Rattle.cargo_lock_merge_core.specs.Numbered.{IsInOrder}
 use Rattle.cargo_lock_merge_core.specs.Placed.{PlacedData}
 use Rattle.cargo_lock_merge_core.specs.Places.{ArePlaced, Place, merge_place}
@@ -92,9 +92,8 @@ pub record IsNumberedAt (places : List Place) (offset : ℕ) (packages : List Pa
   pub place : IsNumberAt places (offset + at) x.place
   pub content : slice_get packages at ≡ Some x.content
   pub ascending : IsStrictlyIncreasing x.dependencies
-  pub found : IsAlone packages at x.content
-      → (i : Identity) → Contains x.content.dependencies i → (k : ℕ) × RefersTo packages i k
-  pub dependencies : IsAlone packages at x.content → AreStatedOnce packages → (n : ℕ) → Contains x.dependencies n
+  pub found : (i : Identity) → Contains x.content.dependencies i → (k : ℕ) × RefersTo packages i k
+  pub dependencies : AreStatedOnce packages → (n : ℕ) → Contains x.dependencies n
       ↔ ((k : ℕ) × IsTargetOf packages x.content k × IsNumberAt places (offset + k) n)
   pub replacement : HasReplacement places offset packages x.content.replace x.replacement
 

@@ -10,7 +10,8 @@ use Rattle.cargo_lock_parts.specs.SourceKey.{key_of}
 use Rattle.cargo_lock_merge_core.specs.declared.member_counts.MemberCounts.{MemberCounts}
 use Rattle.cargo_lock_merge_core.specs.declared.place.Lists.{Lists}
 use Rattle.cargo_lock_merge_core.specs.declared.place.Located.{Located}
-use Rattle.cargo_lock_merge_core.specs.Commits.{Lockfiles, key_without_commit}
+use Rattle.cargo_lock_edges.specs.Nearest.{key_without_commit}
+use Rattle.cargo_lock_merge_core.specs.Commits.{Lockfiles}
 use Rattle.cargo_lock_merge_core.specs.Places.{has_several, is_member_named, version_in}
 
 -- the packages of three lists of the program

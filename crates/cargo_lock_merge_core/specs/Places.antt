@@ -7,7 +7,8 @@ use Rattle.semver.specs.Parse.{Parts}
 use Rattle.cargo_lock_parts.specs.Identity.{Identity, PackageData}
 use Rattle.cargo_lock_parts.specs.PartialIdentity.{PartialKey}
 use Rattle.cargo_lock_parts.specs.Source.{Source, is_git}
-use Rattle.cargo_lock_merge_core.specs.Commits.{Lockfiles, key_without_commit}
+use Rattle.cargo_lock_edges.specs.Nearest.{key_without_commit}
+use Rattle.cargo_lock_merge_core.specs.Commits.{Lockfiles}
 use Rattle.cargo_lock_merge_core.specs.Linked.{IsStatedAt, RefersTo}
 use Rattle.cargo_lock_merge_core.specs.Merge.{IsMerge, Triple}
 use Rattle.cargo_lock_merge_core.specs.Placed.{HasOneAtEach, PlacedData}

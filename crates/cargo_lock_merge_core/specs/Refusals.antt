@@ -14,7 +14,8 @@ use Rattle.cargo_lock_merge_core.specs.declared.refusal.Refusal.TheVariants.{Los
 use Rattle.cargo_lock_merge_core.specs.declared.refusal.Refusal.TheVariants.{Unreplaced}
 use Rattle.cargo_lock_merge_core.specs.declared.refusal.Fault.{Fault}
 use Rattle.cargo_lock_merge_core.specs.declared.refusal.Fault.TheVariants.{Memory, Refused}
-use Rattle.cargo_lock_merge_core.specs.Commits.{HasSource, Lockfiles, key_without_commit}
+use Rattle.cargo_lock_edges.specs.Nearest.{key_without_commit}
+use Rattle.cargo_lock_merge_core.specs.Commits.{HasSource, Lockfiles}
 use Rattle.cargo_lock_merge_core.specs.Linked.{IsStatedAt}
 use Rattle.cargo_lock_merge_core.specs.Lists.{BeginsAt}
 use Rattle.cargo_lock_merge_core.specs.Places.{Place, merge_place}

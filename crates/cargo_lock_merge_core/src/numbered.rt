@@ -19,7 +19,6 @@ use crate::linked::Linked;
 use crate::numbers::Numbers;
 use crate::placed::Placed;
 use crate::refusal::{Fault, Refusal, Result};
-use cargo_lock_graph::building::graph_of;
 use cargo_lock_parts::error;
 use cargo_lock_parts::package::Package;
 use std::alloc::{AllocError, Global};
@@ -57,8 +56,7 @@ pub(crate) fn numbered_list<'a>(
     ensures err { IfErr result (IsFaultFrom numbers.now offset packages.now.items) }
 {
     let slots = slots(alloc, numbers, offset, packages)?;
-    let graph = graph_of(alloc, packages)?.0;
-    let linked = Linked::of(alloc, packages, &graph)?;
+    let linked = Linked::of(alloc, packages)?;
     numbered_slots(alloc, numbers, offset, packages, &linked, &slots)
 }
 

@@ -5,11 +5,13 @@ ghost use Rattle.semver.specs.Identifiers.{parts_of};
 ghost use Rattle.cargo_lock_parts.specs.declared.error.Error.TheVariants.{Memory};
 ghost use Rattle.cargo_lock_parts.specs.PartialIdentity.{partial_key};
 ghost use Rattle.cargo_lock_parts.specs.SourceKey.{key_of};
-ghost use Rattle.cargo_lock_merge_core.specs.Commits.{Lockfiles, key_without_commit};
+ghost use Rattle.cargo_lock_edges.specs.Nearest.{key_without_commit};
+ghost use Rattle.cargo_lock_merge_core.specs.Commits.{Lockfiles};
 ghost use Rattle.cargo_lock_merge_core.specs.Located.{AreMemberCounts, IsLocated};
 ghost use Rattle.cargo_lock_merge_core.specs.Places.{least_of_line, version_in};
 
 use crate::member_counts::MemberCounts;
+use cargo_lock_edges::words::without_commit;
 use cargo_lock_parts::error::Result;
 use cargo_lock_parts::package::{Name, Package, PartialIdentity, SourceId, Version};
 
@@ -81,18 +83,6 @@ fn locate_member(version: &Version, several: bool) -> Result<Located>
         version,
         source: None,
     })
-}
-
-// The source without its commit.
-pub(crate) fn without_commit(source: &SourceId) -> Result<SourceId>
-    ensures ok { IfOk result (λ bare. key_of bare ≡ key_without_commit source.now) }
-    ensures err { IsOkUnless result Memory }
-{
-    if source.is_git() {
-        source.with_precise(None)
-    } else {
-        Ok(source.clone()?)
-    }
 }
 
 /// The line of a version, as the least version in it: the numbers up to the first that is not zero.

@@ -6,6 +6,7 @@ pub mod SourceLaws
 pub mod SourceReading
 pub mod SourceText
 pub mod Checksum
+pub mod Optional
 pub mod Identity
 pub mod IdentityOrder
 pub mod IdentityLaws

@@ -71,6 +71,11 @@ is_registry SparseRegistry = true
 is_registry LocalRegistry = true
 is_registry other = false
 
+-- there is a source, and it is a registry
+abbrev pub is_of_registry : Option Source → Bool
+is_of_registry None = false
+is_of_registry (Some source) = is_registry source.kind
+
 -- the source is a registry that is fetched over the network
 abbrev pub is_remote_registry : Kind → Bool
 is_remote_registry Registry = true

@@ -14,7 +14,7 @@ use crate::dependency::Dependency;
 pub use crate::package::checksum::Checksum;
 pub use crate::package::name::Name;
 pub use crate::package::partial_identity::PartialIdentity;
-pub use crate::package::source::{GitReference, SourceId, SourceKind};
+pub use crate::package::source::{GitReference, SourceId, SourceKind, is_of_registry};
 pub use semver::Version;
 use serde::{Deserialize, Serialize};
 use std::alloc::AllocError;

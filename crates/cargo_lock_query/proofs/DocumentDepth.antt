@@ -5,10 +5,9 @@ use Rattle.cargo_lock_query.specs.Lines.{AnswerData, Needed, Nothing}
 use Rattle.cargo_lock_query.specs.Listing.{RowData, first_in}
 use Rattle.cargo_lock_query.specs.Tally.{GroupData}
 use Rattle.cargo_lock_parts.specs.Identity.{PackageData, identity_of}
-use Rattle.cargo_lock_query.specs.DuplicatesDocument.{group_json, groups_json, row_json}
-use Rattle.cargo_lock_display.specs.File.{FileData}
+use Rattle.cargo_lock_query.specs.DuplicatesDocument.{group_json, row_json}
 use Rattle.cargo_lock_display.specs.PackageJson.{package_json, packages_json}
-use Rattle.cargo_lock_query.specs.WhyDocument.{answer_json, answers_json, needed_by_json, package_in}
+use Rattle.cargo_lock_query.specs.WhyDocument.{answer_json, needed_by_json, package_in}
 use Rattle.cargo_lock_display.proofs.Depth.{identity-depth}
 use Rattle.printing.proofs.Depth.{array-depth, text-depth}
 

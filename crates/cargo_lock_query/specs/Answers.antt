@@ -46,12 +46,12 @@ AreAnswers is_each graph (to ∷ others) answers = (own : List AnswerData)
 
 -- ---- text
 
--- the lines of an answer, each with its newline
-abbrev pub answer_text : AnswerData → List ℕ
-answer_text answer = answer_lines answer ++ newline ∷ []
+-- the lines of an answer about a package of a list, each with its newline
+abbrev pub answer_text : List PackageData → AnswerData → List ℕ
+answer_text list answer = answer_lines list answer ++ newline ∷ []
 
 -- the answers, with an empty line between two
-abbrev pub answers_text : List AnswerData → List ℕ
-answers_text [] = []
-answers_text (answer ∷ others) =
-    answer_text answer ++ flat_map (λ other. newline ∷ answer_text other) others
+abbrev pub answers_text : List PackageData → List AnswerData → List ℕ
+answers_text list [] = []
+answers_text list (answer ∷ others) =
+    answer_text list answer ++ flat_map (λ other. newline ∷ answer_text list other) others

@@ -3,7 +3,7 @@ use Rattle.std.specs.Prelude.{ℕ, List}
 use Rattle.std.specs.Prelude.{◌++◌, codes, drop, map, reverse, slice_get}
 use Rattle.std.specs.List.{filter_map, flat_map}
 use Rattle.cargo_lock_parts.specs.Identity.{PackageData}
-use Rattle.cargo_lock_display.specs.Line.{named_text}
+use Rattle.cargo_lock_display.specs.Line.{package_among}
 use Rattle.cargo_lock_query.specs.declared.lines.Answer.{Answer}
 use Rattle.cargo_lock_query.specs.declared.lines.Answer.TheVariants as variant
 
@@ -28,11 +28,11 @@ needers_in packages chain = drop 1 (reverse (packages_at packages chain))
 
 -- ---- lines
 
--- the line of a package that needs the one of the line before
-abbrev pub needer_line : PackageData → List ℕ
-needer_line p = codes "\n  needed by " ++ named_text p
+-- the line of a package of a list that needs the one of the line before
+abbrev pub needer_line : List PackageData → PackageData → List ℕ
+needer_line list p = codes "\n  needed by " ++ package_among list p
 
--- the lines of an answer; the last one has no newline
-abbrev pub answer_lines : AnswerData → List ℕ
-answer_lines (Needed p needers) = named_text p ++ flat_map needer_line needers
-answer_lines (Nothing p) = codes "nothing leads to " ++ named_text p
+-- the lines of an answer about a package of a list; the last one has no newline
+abbrev pub answer_lines : List PackageData → AnswerData → List ℕ
+answer_lines list (Needed p needers) = package_among list p ++ flat_map (needer_line list) needers
+answer_lines list (Nothing p) = codes "nothing leads to " ++ package_among list p

@@ -1,7 +1,7 @@
 -- The lines of the packages of one name, with what needs each.
 use Rattle.std.specs.Prelude.{◌≡◌, ◌-◌, ◌≤◌, ◌⊎◌, ℕ, All, Contains, List, [], ◌∷◌, ◌++◌}
 use Rattle.std.specs.Prelude.{Option, None}
-use Rattle.std.specs.Prelude.{Some, codes, if◌then◌else◌, length, map, option_map, replicate}
+use Rattle.std.specs.Prelude.{Some, codes, length, map, option_map, replicate}
 use Rattle.std.specs.Prelude.{slice_get, string_bytes}
 use Rattle.std.specs.List.{flat_map}
 use Rattle.std.specs.Ordering.{eq_by_cmp}
@@ -9,7 +9,7 @@ use Rattle.std.specs.Set.{distinct_count}
 use Rattle.cargo_lock_parts.specs.Identity.{PackageData}
 use Rattle.cargo_lock_parts.specs.IdentityOrder.{version_cmp}
 use Rattle.cargo_lock_query.specs.Lines.{packages_at}
-use Rattle.cargo_lock_display.specs.Line.{named_text, source_after_version, version_shown}
+use Rattle.cargo_lock_display.specs.Line.{named_text, source_among, version_shown}
 use Rattle.cargo_lock_query.specs.declared.listing.Row.{Row}
 use Rattle.cargo_lock_query.specs.declared.repeated.Duplicate.{Duplicate}
 use Rattle.printing.specs.Shown.{shown}
@@ -29,15 +29,15 @@ row_of row = record {
   needers = map (λ p. p.now) row.needers.items;
 }
 
--- the version and the source after it
-abbrev pub version_text : PackageData → List ℕ
-version_text p = version_shown p.version ++ source_after_version p.source
+-- the version of a package of a list, and the source after it
+abbrev pub version_text : List PackageData → PackageData → List ℕ
+version_text list p = version_shown p.version ++ source_among list p
 
 -- the row of a package and the nodes of those that depend on it
 abbrev pub row_with : List PackageData → List ℕ → PackageData → RowData
 row_with packages needers p = record {
   listed = p;
-  version = version_text p;
+  version = version_text packages p;
   needers = packages_at packages needers;
 }
 

@@ -5,8 +5,6 @@ use Rattle.cargo_lock_query.specs.Lines.{AnswerData, Needed, Nothing}
 use Rattle.cargo_lock_parts.specs.Identity.{PackageData}
 use Rattle.cargo_lock_display.specs.File.{FileData, list_document}
 use Rattle.cargo_lock_display.specs.PackageJson.{package_json, packages_json}
-use Rattle.printing.specs.Json.{items_of}
-use Rattle.printing.specs.Value.{text_or_null}
 
 -- the package that an answer is about
 abbrev pub package_in : AnswerData → PackageData

@@ -8,10 +8,11 @@ ghost use Rattle.cargo_lock_query.specs.Lines.{answer_of};
 ghost use Rattle.cargo_lock_query.specs.Reasons.{AreReasons};
 ghost use Rattle.cargo_lock_query.specs.Starts.{AreChainStarts};
 
-use crate::lines::{Answer, needers_of_chain};
+use crate::lines::{Answer, AnswerText, needers_of_chain};
 use crate::reason::{Reasons, why_each};
 use cargo_lock_graph::graph::{Graph, NodeIndex};
 use cargo_lock_parts::package::Package;
+use cargo_lock_references::index::Indexed;
 use std::alloc::{AllocError, Global};
 use std::fmt;
 
@@ -24,6 +25,9 @@ use std::fmt;
 /// ```
 #[derive(Drop)]
 pub struct Answers<'a> {
+    /// The packages of the graph.
+    pub list: Indexed<'a, Package>,
+
     /// The answers.
     pub answers: Vec<Answer<'a>>,
 }
@@ -39,15 +43,17 @@ impl<'a> Answers<'a> {
         is_each: bool,
     ) -> Result<Answers<'a>, AllocError>
         requires { All (λ k. k < length graph.now.packages) nodes.now }
-        ensures { IfOk result (λ made.
+        ensures answers { IfOk result (λ made.
             AreAnswers is_each graph.now nodes.now (map answer_of made.answers.items)) }
+        ensures list { IfOk result (λ made. made.list ≡ graph.now.packages) }
     {
+        let list = Indexed::of(alloc, graph.packages())?;
         let answers = if is_each {
             each_answer(alloc, graph, nodes)?
         } else {
             first_answers(alloc, graph, nodes)?
         };
-        Ok(Answers { answers })
+        Ok(Answers { list, answers })
     }
 }
 
@@ -146,12 +152,13 @@ impl fmt::Display for Answers<'_> {
     ghost use Rattle.cargo_lock_query.specs.Answers.{answers_text};
     ghost use Rattle.cargo_lock_query.specs.Lines.{answer_of};
 
-    ghost output = { λ shown. Some (answers_text (map answer_of shown.answers.items)) };
+    ghost output = { λ shown. Some (answers_text shown.list (map answer_of shown.answers.items)) };
 
     fn fmt<W: fmt::Write>(&self, f: &mut fmt::Formatter<W>) -> fmt::Result {
         match self.answers.split_first() {
             Some((first, others)) => {
-                let others = MoreAnswers(others);
+                let first = AnswerText(&self.list, first);
+                let others = MoreAnswers(&self.list, others);
                 write!(f, "{first}\n{others}")
             }
             None => Ok(()),
@@ -159,9 +166,9 @@ impl fmt::Display for Answers<'_> {
     }
 }
 
-// Answers, each after an empty line.
+// Answers about packages of a list, each after an empty line.
 #[derive(Clone, Copy)]
-struct MoreAnswers<'a>(&'a [Answer<'a>]);
+struct MoreAnswers<'a>(&'a Indexed<'a, Package>, &'a [Answer<'a>]);
 
 impl fmt::Display for MoreAnswers<'_> {
     ghost use Rattle.std.specs.Prelude.{◌∷◌, Some, map};
@@ -170,12 +177,13 @@ impl fmt::Display for MoreAnswers<'_> {
     ghost use Rattle.cargo_lock_query.specs.Answers.{answer_text};
     ghost use Rattle.cargo_lock_query.specs.Lines.{answer_of};
 
-    ghost output = { λ shown.
-        Some (flat_map (λ other. newline ∷ answer_text other) (map answer_of shown.0.now)) };
+    ghost output = { λ shown. Some (flat_map
+        (λ other. newline ∷ answer_text shown.0.now other) (map answer_of shown.1.now)) };
 
     fn fmt<W: fmt::Write>(&self, f: &mut fmt::Formatter<W>) -> fmt::Result {
-        let MoreAnswers(answers) = *self;
+        let MoreAnswers(list, answers) = *self;
         for answer in answers {
+            let answer = AnswerText(list, answer);
             write!(f, "\n{answer}\n")?;
         }
         Ok(())

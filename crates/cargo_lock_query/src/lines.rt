@@ -4,44 +4,54 @@ ghost use Rattle.std.specs.Prelude.{◌≡◌, IfOk, map};
 ghost use Rattle.cargo_lock_query.specs.Lines.{needers_in};
 ghost use Rattle.cargo_lock_query.specs.Lines as spec;
 
-use cargo_lock_display::NameVersion;
+use cargo_lock_display::PackageAmong;
 use cargo_lock_graph::graph::{Graph, NodeIndex};
 use cargo_lock_parts::package::Package;
+use cargo_lock_references::index::Indexed;
 use std::alloc::{AllocError, Global};
 use std::fmt;
 
-/// Why a package is there. `Display` writes it as lines, the last one without a newline. Texts that
-/// come from a lockfile are shown as `Shown` shows them.
-///
-/// ```
-/// let answer = Answer::Nothing(package);
-/// println!(rt; "{answer}")?;
-/// ```
+/// Why a package is there.
 #[derive(Drop)]
 pub enum Answer<'a> {
-    /// A chain of dependencies leads to the package: `NAME VERSION` and, for each package that
-    /// needs the one of the line before, `  needed by NAME VERSION`.
+    /// A chain of dependencies leads to the package. Each of the others needs the one before it.
     Needed(&'a Package, Vec<&'a Package>),
 
-    /// No chain leads to the package: `nothing leads to NAME VERSION`.
+    /// No chain leads to the package.
     Nothing(&'a Package),
 }
 
-impl fmt::Display for Answer<'_> {
+/// Displays why a package of a list is there, as lines, the last one without a newline: for a chain
+/// `NAME VERSION` and, for each package that needs the one of the line before, `  needed by NAME
+/// VERSION`, and otherwise `nothing leads to NAME VERSION`. Where several packages of the list have
+/// a name and a version, the source is behind them. Texts that come from a lockfile are shown as
+/// `Shown` shows them.
+///
+/// ```
+/// for answer in &answers.answers {
+///     let text = AnswerText(&answers.list, answer);
+///     println!(rt; "{text}")?;
+/// }
+/// ```
+#[derive(Clone, Copy)]
+pub struct AnswerText<'a>(pub &'a Indexed<'a, Package>, pub &'a Answer<'a>);
+
+impl fmt::Display for AnswerText<'_> {
     ghost use Rattle.std.specs.Prelude.{Some};
     ghost use Rattle.cargo_lock_query.specs.Lines.{answer_lines, answer_of};
 
-    ghost output = { λ answer. Some (answer_lines (answer_of answer)) };
+    ghost output = { λ shown. Some (answer_lines shown.0.now (answer_of shown.1.now)) };
 
     fn fmt<W: fmt::Write>(&self, f: &mut fmt::Formatter<W>) -> fmt::Result {
-        match self {
+        let AnswerText(list, answer) = *self;
+        match answer {
             Answer::Needed(package, needers) => {
-                let package = NameVersion(package);
-                let needers = Needers(needers);
+                let package = PackageAmong(list, package);
+                let needers = Needers(list, needers);
                 write!(f, "{package}{needers}")
             }
             Answer::Nothing(package) => {
-                let package = NameVersion(package);
+                let package = PackageAmong(list, package);
                 write!(f, "nothing leads to {package}")
             }
         }
@@ -84,21 +94,22 @@ pub(crate) fn packages_at<'a>(
     Ok(packages)
 }
 
-// Packages each of which needs the one of the line before.
+// Packages of a list, each of which needs the one of the line before.
 #[derive(Clone, Copy)]
-struct Needers<'a>(&'a Vec<&'a Package>);
+struct Needers<'a>(&'a Indexed<'a, Package>, &'a Vec<&'a Package>);
 
 impl fmt::Display for Needers<'_> {
     ghost use Rattle.std.specs.Prelude.{Some, map};
     ghost use Rattle.std.specs.List.{flat_map};
     ghost use Rattle.cargo_lock_query.specs.Lines.{needer_line};
 
-    ghost output = { λ shown. Some (flat_map needer_line (map (λ p. p.now) shown.0.now.items)) };
+    ghost output = { λ shown. Some (flat_map (needer_line shown.0.now)
+        (map (λ p. p.now) shown.1.now.items)) };
 
     fn fmt<W: fmt::Write>(&self, f: &mut fmt::Formatter<W>) -> fmt::Result {
-        let Needers(needers) = *self;
+        let Needers(list, needers) = *self;
         for needer in needers {
-            let needer = NameVersion(needer);
+            let needer = PackageAmong(list, needer);
             write!(f, "\n  needed by {needer}")?;
         }
         Ok(())

@@ -12,9 +12,10 @@ ghost use Rattle.cargo_lock_query.specs.Listing as spec;
 
 use crate::lines::packages_at;
 use crate::repeated::Duplicate;
-use cargo_lock_display::{NameVersion, SourceBehind};
+use cargo_lock_display::{NameVersion, SourceAmong};
 use cargo_lock_graph::graph::{Graph, NodeIndex};
 use cargo_lock_parts::package::{Package, Version};
+use cargo_lock_references::index::Indexed;
 use printing::Shown;
 use std::alloc::{AllocError, Global};
 use std::collections::BTreeSet;
@@ -36,10 +37,10 @@ pub struct Row<'a> {
 /// The packages of one name. `Display` writes the name and a line for each package, the last one
 /// without a newline: `  VERSION SRC  needed by NAME VERSION, ..`.
 ///
-/// `SRC` is the source as a V4 lockfile has it, in round brackets; a package without a source has
-/// `(path)`, and one of crates.io nothing. Versions and sources are one column, and what depends on
-/// each package another. A package on which none depends has only the first. Texts that come from a
-/// lockfile are shown as `Shown` shows them.
+/// `SRC` is the source as a V4 lockfile has it, in round brackets; one of crates.io has nothing,
+/// and a package without a source `(path)` where another one has its name and version. Versions and
+/// sources are one column, and what depends on each package another. A package on which none
+/// depends has only the first. Texts that come from a lockfile are shown as `Shown` shows them.
 ///
 /// ```
 /// for group in &groups {
@@ -68,32 +69,53 @@ impl<'a> Rows<'a> {
         ensures versions { IfOk result
             (λ made. made.versions ≡ count_versions (map row_of made.rows.items)) }
     {
-        let mut rows = Vec::with_capacity(alloc, group.len())?;
-        for one in group {
-            add_row(alloc, graph, one, &mut rows)?;
-        }
-        let width = widest(&rows);
-        let versions = count_versions(alloc, &rows)?;
-        Ok(Rows {
-            rows,
-            width,
-            versions,
-        })
+        let list = Indexed::of(alloc, graph.packages())?;
+        rows_among(alloc, graph, &list, group)
     }
+}
+
+/// The lines of a group that `duplicates` finds, where the list has the packages of the graph.
+/// Fails when out of memory.
+pub(crate) fn rows_among<'a>(
+    alloc: Global,
+    graph: &'a Graph,
+    list: &Indexed<'_, Package>,
+    group: &[Duplicate],
+) -> Result<Rows<'a>, AllocError>
+    requires { list.now ≡ graph.now.packages }
+    ensures rows { IfOk result (λ made.
+        map row_of made.rows.items ≡ filter_map (row_for graph.now.packages) group.now) }
+    ensures width { IfOk result (λ made. IsWidest (map row_of made.rows.items) made.width) }
+    ensures versions { IfOk result
+        (λ made. made.versions ≡ count_versions (map row_of made.rows.items)) }
+{
+    let mut rows = Vec::with_capacity(alloc, group.len())?;
+    for one in group {
+        add_row(alloc, graph, list, one, &mut rows)?;
+    }
+    let width = widest(&rows);
+    let versions = count_versions(alloc, &rows)?;
+    Ok(Rows {
+        rows,
+        width,
+        versions,
+    })
 }
 
 // Adds the row of a package.
 fn add_row<'a>(
     alloc: Global,
     graph: &'a Graph,
+    list: &Indexed<'_, Package>,
     one: &Duplicate,
     rows: &mut Vec<Row<'a>>,
 ) -> Result<(), AllocError>
+    requires { list.now ≡ graph.now.packages }
     ensures { OnOk result (map row_of rows.new.items ≡ map row_of rows.old.items
         ++ filter_map (row_for graph.now.packages) (one.now ∷ [])) }
 {
     if let Some(package) = graph.node_weight(one.node) {
-        let row = row_with(alloc, graph, package, &one.needers)?;
+        let row = row_with(alloc, graph, list, package, &one.needers)?;
         rows.push(row)?;
     }
     Ok(())
@@ -103,13 +125,15 @@ fn add_row<'a>(
 fn row_with<'a>(
     alloc: Global,
     graph: &'a Graph,
+    list: &Indexed<'_, Package>,
     package: &'a Package,
     needers: &[NodeIndex],
 ) -> Result<Row<'a>, AllocError>
+    requires { list.now ≡ graph.now.packages }
     ensures { IfOk result (λ row. row_of row
         ≡ spec.row_with graph.now.packages needers.now «package».now) }
 {
-    let version = version_of(alloc, package)?;
+    let version = version_of(alloc, list, package)?;
     let needers = packages_at(alloc, graph, needers)?;
     Ok(Row {
         package,
@@ -118,12 +142,16 @@ fn row_with<'a>(
     })
 }
 
-// The version and the source of a package.
-fn version_of(alloc: Global, package: &Package) -> Result<String, AllocError>
-    ensures { IfOk result (λ text. string_bytes text ≡ version_text «package».now) }
+// The version and the source of a package of a list.
+fn version_of(
+    alloc: Global,
+    list: &Indexed<'_, Package>,
+    package: &Package,
+) -> Result<String, AllocError>
+    ensures { IfOk result (λ text. string_bytes text ≡ version_text list.now «package».now) }
 {
     let version = Shown(&package.version);
-    let source = SourceBehind(&package.source);
+    let source = SourceAmong(list, package);
     format!(in alloc; "{version}{source}")
 }
 

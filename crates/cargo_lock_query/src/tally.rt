@@ -5,9 +5,10 @@ ghost use Rattle.std.specs.List.{AllZip};
 ghost use Rattle.cargo_lock_query.specs.Tally.{AreGroupsOf, IsGroupOf, group_of_rows};
 ghost use Rattle.cargo_lock_query.specs.Tally.{surplus_of_all, versions_of_all};
 
-use crate::listing::Rows;
+use crate::listing::{Rows, rows_among};
 use crate::repeated::{Duplicate, duplicates};
 use cargo_lock_graph::graph::Graph;
+use cargo_lock_references::index::Indexed;
 use std::alloc::{AllocError, Global};
 use std::fmt;
 
@@ -50,9 +51,10 @@ impl<'a> Listing<'a> {
         ensures { IfOk result (λ made. AllZip (IsGroupOf graph.now.packages)
             (map (λ group. group.items) groups.now) (map group_of_rows made.groups.items)) }
     {
+        let list = Indexed::of(alloc, graph.packages())?;
         let mut made = Vec::with_capacity(alloc, groups.len())?;
         for group in groups {
-            made.push(Rows::of(alloc, graph, group)?)?;
+            made.push(rows_among(alloc, graph, &list, group)?)?;
         }
         Ok(Listing { groups: made })
     }

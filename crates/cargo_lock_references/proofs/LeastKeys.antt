@@ -15,7 +15,7 @@ use Rattle.cargo_lock_parts.specs.Checksum.{digest_in, digest_of}
 use Rattle.cargo_lock_parts.specs.declared.package.checksum.Checksum.{Checksum}
 use Rattle.cargo_lock_references.specs.LeastKey.{ChecksumAtLeastKey, HasNoKey, IsAtLeastKey, IsFoundAtLeastKey}
 use Rattle.cargo_lock_references.specs.Metadata.{checksum_in, reads_as}
-use Rattle.cargo_lock_references.specs.Optional.{◌>>=◌}
+use Rattle.cargo_lock_parts.specs.Optional.{◌>>=◌}
 use Rattle.cargo_lock_references.specs.Records.{Texts}
 use Rattle.cargo_lock_references.proofs.Texts.{texts_tie}
 

@@ -1,5 +1,4 @@
 pub mod Words
-pub mod Optional
 pub mod Reference
 pub mod Records
 pub mod ResolvesTo

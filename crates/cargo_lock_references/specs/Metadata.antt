@@ -13,7 +13,7 @@ use Rattle.cargo_lock_references.specs.declared.version.ResolveVersion.{ResolveV
 use Rattle.cargo_lock_references.specs.declared.version.ResolveVersion.TheVariants.{V1, V2, V3, V4}
 use Rattle.cargo_lock_references.specs.Reference.{Reference, Refusal, NoReference}
 use Rattle.cargo_lock_references.specs.Reference.{reference_or_refusal}
-use Rattle.cargo_lock_references.specs.Optional.{◌>>=◌}
+use Rattle.cargo_lock_parts.specs.Optional.{◌>>=◌}
 use Rattle.cargo_lock_references.specs.Records.{Texts}
 use Rattle.cargo_lock_references.specs.ResolutionSearch.{own_words, same_text, same_parts}
 

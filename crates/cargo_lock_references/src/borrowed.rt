@@ -153,7 +153,10 @@ fn own_references(
     Ok(copies)
 }
 
-fn own_version(version: Option<&Version>) -> std::result::Result<Option<Version>, AllocError>
+// A copy of a version that may be absent.
+pub(crate) fn own_version(
+    version: Option<&Version>,
+) -> std::result::Result<Option<Version>, AllocError>
     ensures { IfOk result
         (λ copy. option_map parts_of copy ≡ option_map (λ v. parts_of v.now) version.entry) }
 {

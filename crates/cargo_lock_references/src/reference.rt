@@ -19,7 +19,7 @@ ghost use Rattle.cargo_lock_references.specs.ResolutionSearch.{fits, resolution_
 ghost use Rattle.cargo_lock_references.specs.WrittenReference.{has_name_and_version, has_name};
 ghost use Rattle.cargo_lock_references.specs.WrittenReference.{in_full, exactly_one};
 
-use crate::borrowed::EncodableDependencyRef;
+use crate::borrowed::{EncodableDependencyRef, own_version};
 use crate::index::Indexed;
 use crate::package_version::same_version;
 use crate::read_sources::ReadSources;
@@ -432,18 +432,9 @@ impl Clone for EncodableDependency {
     fn clone(&self) -> std::result::Result<EncodableDependency, AllocError> {
         Ok(EncodableDependency {
             name: self.name.clone()?,
-            version: clone_version(&self.version)?,
+            version: own_version(self.version.as_ref())?,
             source: self.source.clone()?,
         })
-    }
-}
-
-fn clone_version(version: &Option<Version>) -> std::result::Result<Option<Version>, AllocError>
-    ensures { IfOk result (λ copy. option_map parts_of copy ≡ option_map parts_of version.now) }
-{
-    match version {
-        Some(version) => Ok(Some(version.clone()?)),
-        None => Ok(None),
     }
 }
 
@@ -513,12 +504,7 @@ fn cmp_versions(a: &Option<Version>, b: &Option<Version>) -> Ordering
     ensures { result
         ≡ option_cmp version_cmp (option_map parts_of a.now) (option_map parts_of b.now) }
 {
-    match (a, b) {
-        (None, None) => Ordering::Equal,
-        (None, Some(_)) => Ordering::Less,
-        (Some(_), None) => Ordering::Greater,
-        (Some(a), Some(b)) => a.cmp(b),
-    }
+    a.cmp(b)
 }
 
 impl Hash for EncodableDependency {

@@ -3,9 +3,10 @@ use Rattle.std.proofs.Common.{◌≡◌, ℕ, true, List, [], ◌∷◌, codes, 
 use Rattle.toml.specs.Data.{Data, string, integer, float, boolean, datetime, array, table, Items, no_items, item, Members, get_member}
 use Rattle.cargo_lock_parts.specs.Checksum.{digest_in}
 use Rattle.cargo_lock_parts.specs.SourceReading.{source_of}
-use Rattle.cargo_lock_references.specs.Optional.{◌>>=◌}
+use Rattle.cargo_lock_parts.specs.Optional.{◌>>=◌}
 use Rattle.cargo_lock_references.specs.Reference.{reference_of, version_of}
-use Rattle.cargo_lock_encoding.specs.TableReading.{checksum_from, identity_at, optional_by, optional_list, package_at_key, read_all, reference_in, required_text, source_in, text_in}
+use Rattle.toml_fields.specs.Fields.{optional_by, optional_list, read_all, required_text, text_in}
+use Rattle.cargo_lock_encoding.specs.TableReading.{checksum_from, identity_at, package_at_key, reference_in, source_in}
 use Rattle.cargo_lock_table_flaws.specs.declared.finding.Key.{Key}
 use Rattle.cargo_lock_table_flaws.specs.declared.finding.Key.TheVariants as key
 use Rattle.cargo_lock_table_flaws.specs.declared.finding.Place.{Place}

@@ -8,7 +8,7 @@ use Rattle.cargo_lock_encoding.specs.Meaning.{all_packages, completed_lockfile, 
 use Rattle.cargo_lock_encoding.specs.Means.{Means, encoded_checksum, reading_list}
 use Rattle.cargo_lock_encoding.proofs.MeansLemmas.{lockfile_of-from}
 use Rattle.cargo_lock_references.specs.declared.version.ResolveVersion.{ResolveVersion}
-use Rattle.cargo_lock_references.specs.Optional.{map_all, map_some}
+use Rattle.cargo_lock_parts.specs.Optional.{map_all, map_some}
 use Rattle.cargo_lock_references.specs.Records.{EncodedPackage, encoded_identity}
 use Rattle.cargo_lock_references.specs.Reference.{Reference}
 use Rattle.cargo_lock_references.specs.ResolutionSearch.{resolution_of}

@@ -2,9 +2,10 @@
 use Rattle.std.proofs.Common.{◌≡◌, ◌+◌, ℕ, List, [], codes, Option, Some, None, is_some, refl, ap}
 use Rattle.toml.specs.Data.{Data, string, integer, float, boolean, datetime, array, table, Items, no_items, item, Members, as_table, get_member}
 use Rattle.cargo_lock_parts.specs.Identity.{Identity}
-use Rattle.cargo_lock_encoding.specs.TableReading.{EncodedPackages, all_encoded_packages_at, encoded_at, encoded_package_in, encoded_packages_at, identity_at, items_in, members_in, metadata_in, number_in, optional_by, optional_list, package_at_key, patch_at, patch_in, read_all, required_list, unused_patch_in}
+use Rattle.toml_fields.specs.Fields.{items_in, members_in, number_in, optional_by, optional_list, read_all, required_list}
+use Rattle.cargo_lock_encoding.specs.TableReading.{EncodedPackages, all_encoded_packages_at, encoded_at, encoded_package_in, encoded_packages_at, identity_at, metadata_in, package_at_key, patch_at, patch_in, unused_patch_in}
 use Rattle.cargo_lock_encoding.proofs.MeansLemmas.{bind-parts, map-parts, more-parts}
-use Rattle.cargo_lock_references.specs.Optional.{◌>>=◌}
+use Rattle.cargo_lock_parts.specs.Optional.{◌>>=◌}
 use Rattle.cargo_lock_references.specs.Records.{EncodedPackage}
 use Rattle.cargo_lock_table_flaws.specs.declared.finding.Place.{Place}
 use Rattle.cargo_lock_table_flaws.specs.declared.finding.Place.TheVariants.{Listed, Root, Unused}

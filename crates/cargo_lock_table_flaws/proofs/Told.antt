@@ -3,7 +3,7 @@ use Rattle.std.proofs.Common.{◌≡◌, ◌↔◌, true, false, if◌then◌els
 use Rattle.std.specs.List.{flat_map}
 use Rattle.std.proofs.lemmas.Bool.{false≢true}
 use Rattle.lists.proofs.Tests.{append-none}
-use Rattle.cargo_lock_references.specs.Optional.{◌>>=◌, map_all, map_some}
+use Rattle.cargo_lock_parts.specs.Optional.{◌>>=◌, map_all, map_some}
 use Rattle.cargo_lock_table_flaws.specs.Finding.{TableFindingData}
 use Rattle.cargo_lock_table_flaws.specs.Unread.{in_some}
 

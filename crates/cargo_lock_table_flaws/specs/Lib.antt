@@ -4,5 +4,6 @@ pub mod Unresolved
 pub mod Format
 pub mod Report
 pub mod Document
+pub mod Reporting
 pub mod Marks
 pub mod Laws

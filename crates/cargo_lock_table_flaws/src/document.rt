@@ -63,7 +63,7 @@ impl ToJson for TableFinding<'_> {
 }
 
 // The kind of a finding, as the document has it.
-fn kind(finding: &TableFinding<'_>) -> &'static str
+pub(crate) fn kind(finding: &TableFinding<'_>) -> &'static str
     ensures { result.now ≡ table_finding_kind (table_finding_of finding.now) }
 {
     match finding {

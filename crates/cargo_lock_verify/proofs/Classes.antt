@@ -9,7 +9,8 @@ use Rattle.cargo_lock_parts.specs.Source.{Source}
 use Rattle.cargo_lock_verify.specs.declared.class.Class.{Class}
 use Rattle.cargo_lock_verify.specs.declared.class.Class.TheVariants as class
 use Rattle.cargo_lock_verify.specs.declared.class.Counts.{Counts}
-use Rattle.cargo_lock_verify.specs.Class.{CountsArePartition, is_class, is_clean, is_of_registry}
+use Rattle.cargo_lock_parts.specs.Source.{is_of_registry}
+use Rattle.cargo_lock_verify.specs.Class.{CountsArePartition, is_class, is_clean}
 use Rattle.cargo_lock_verify.specs.Archives.{ArchiveClassesAreExact, ArchiveSubjectData, ArchivesAreClean, CacheData, IsChanged, IsCleanOf, IsMatching, IsMissing, IsNotCompared, IsOfArchiveClass, IsOfRegistryUnchecked, IsVerified}
 use Rattle.cargo_lock_verify.specs.Archives.{archive_class, archive_counts, class_by_checksum, class_unless, class_with_checksum, is_changed, is_digest}
 use Rattle.cargo_lock_verify.specs.Vendored.{FolderClassesAreExact, IsCompared, IsOfFolderClass, VendoredData}

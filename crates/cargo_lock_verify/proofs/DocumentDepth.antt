@@ -9,12 +9,14 @@ use Rattle.cargo_lock_verify.specs.declared.class.Counts.{Counts}
 use Rattle.cargo_lock_verify.specs.declared.document.Compared.{Compared}
 use Rattle.cargo_lock_verify.specs.declared.document.Compared.TheVariants.{Archives, Folders}
 use Rattle.cargo_lock_display.proofs.Depth.{package-depth}
+use Rattle.cargo_lock_location.proofs.LineDepth.{line-depth}
 use Rattle.printing.proofs.Depth.{array-depth, text-depth}
 
 pub found-depth : (f : FoundData) → depth (found_json f) ≤ 4
 unfolding found_json
 found-depth f = omega (
   arith,
+  line-depth f.line,
   package-depth f.content,
   text-depth f.path,
   text-depth (option_map digest_text f.digest),

@@ -7,7 +7,7 @@ use Rattle.cargo_lock_parts.specs.Identity.{PackageData, identity_of}
 use Rattle.cargo_lock_references.specs.WrittenReference.{has_name_and_version}
 use Rattle.cargo_lock_verify.specs.Archives.{ArchiveData, ArchiveFindingData, ArchiveFindingsAreExact, ArchiveSubjectData, CacheData, Changed, IsArchiveFinding, IsArchiveFindingOf, IsChanged, IsChangedBy, IsExpected, IsMissing, IsOfNamesake, IsOfRegistryUnchecked, IsVerified, Missing, NoChecksum, NoneIfVerified}
 use Rattle.cargo_lock_verify.specs.Archives.{archive_findings, found_by_checksum, found_if, found_in, found_of_unchecked, found_unless, is_archive_of, is_changed, has_digest_if, is_digest, is_expected, is_in_its_place}
-use Rattle.cargo_lock_verify.specs.Class.{is_of_registry}
+use Rattle.cargo_lock_parts.specs.Source.{is_of_registry}
 use Rattle.lists.proofs.Members.{first-in as first, in-joined as in-flat, in-kept, in-map, joined-in, kept-in, map-in, none-in as no-element}
 use Rattle.lists.proofs.Members.{none-left as no-elements}
 use Rattle.lists.proofs.Tests.{and-both, and-parts, any-none, any-one, is-false, none-any, not-true, only, or-cases}

@@ -10,7 +10,8 @@ use Rattle.std.specs.List.{Contains, flat_map, list_any}
 use Rattle.cargo_lock_parts.specs.Checksum.{digest_of}
 use Rattle.cargo_lock_parts.specs.Identity.{PackageData, identity_of}
 use Rattle.cargo_lock_references.specs.WrittenReference.{has_name_and_version}
-use Rattle.cargo_lock_verify.specs.Class.{counts_of, is_clean, is_of_registry}
+use Rattle.cargo_lock_parts.specs.Source.{is_of_registry}
+use Rattle.cargo_lock_verify.specs.Class.{counts_of, is_clean}
 use Rattle.cargo_lock_verify.specs.Hosts.{hosts_of, is_in_reach}
 use Rattle.cargo_lock_verify.specs.declared.subject.Cache.{Cache}
 use Rattle.cargo_lock_verify.specs.declared.class.Class.{Class}

@@ -1,6 +1,5 @@
 -- What is known of packages by a comparison: each is in exactly one class.
 use Rattle.std.specs.Prelude.{◌≡◌, ◌==◌, ◌+◌, ◌&&◌, ◌||◌, Bool, false, true, List, Option, None, Some, count_by, length, not}
-use Rattle.cargo_lock_parts.specs.Source.{Source, is_registry}
 use Rattle.cargo_lock_verify.specs.declared.class.Class.{Class}
 use Rattle.cargo_lock_verify.specs.declared.class.Class.TheVariants as class
 use Rattle.cargo_lock_verify.specs.declared.class.Counts.{Counts}
@@ -36,11 +35,6 @@ has_all_compared c = c.missing == 0 && c.without_checksum == 0
 -- all is not asked for, one that matches is enough in place of the latter
 abbrev pub is_clean : Bool → Counts → Bool
 is_clean all c = c.changed == 0 && (has_all_compared c || not all && not (c.matches == 0))
-
--- there is a source, and it is a registry
-abbrev pub is_of_registry : Option Source → Bool
-is_of_registry None = false
-is_of_registry (Some source) = is_registry source.kind
 
 -- ---- each is in one class
 

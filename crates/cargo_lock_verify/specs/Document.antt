@@ -8,15 +8,17 @@ use Rattle.cargo_lock_display.specs.PackageJson.{package_or_null}
 use Rattle.cargo_lock_verify.specs.declared.class.Counts.{Counts}
 use Rattle.cargo_lock_verify.specs.declared.document.Compared.{Compared}
 use Rattle.cargo_lock_verify.specs.declared.document.Compared.TheVariants.{Archives, Folders}
+use Rattle.cargo_lock_location.specs.Located.{line_or_null}
 use Rattle.printing.specs.Value.{text_or_null}
 use Rattle.printing.specs.Json.{items_of}
 
--- what the document says of a finding: its kind, its line, its package, the path of what it is
--- about, the digest that was found, and the one that was expected; there may be none of the last
--- four
+-- what the document says of a finding: its kind, its line, the number of the line of its package in
+-- the lockfile, its package, the path of what it is about, the digest that was found, and the one that
+-- was expected; there may be none of the last five
 pub record FoundData : Type 0 where
   pub kind : List ℕ
   pub message : List ℕ
+  pub line : Option ℕ
   pub content : Option PackageData
   pub path : Option (List ℕ)
   pub digest : Option (List ℕ)
@@ -27,10 +29,11 @@ unfoldable pub found_json : FoundData → Json
 found_json f = object
     (member (codes "kind") (string f.kind)
     (member (codes "message") (string f.message)
+    (member (codes "line") (line_or_null f.line)
     (member (codes "package") (package_or_null f.content)
     (member (codes "path") (text_or_null f.path)
     (member (codes "digest") (text_or_null (option_map digest_text f.digest))
-    (member (codes "expected") (text_or_null (option_map digest_text f.expected)) no_members))))))
+    (member (codes "expected") (text_or_null (option_map digest_text f.expected)) no_members)))))))
 
 -- the key of the number of the packages that have no archive, or no folder
 abbrev pub missing_key : Compared → List ℕ

@@ -11,6 +11,7 @@ use Rattle.cargo_lock_verify.specs.Vendored.{FolderFindingData, Absent, Link, No
 use Rattle.cargo_lock_verify.specs.Vendored.{OfEntry, OtherArchive, OtherFile, Unlisted, digest_at}
 use Rattle.cargo_lock_verify.specs.VendoredLines.{folder_finding_line}
 use Rattle.cargo_lock_display.specs.File.{FileData}
+use Rattle.cargo_lock_location.specs.Lines.{LinesData, line_of_some}
 use Rattle.cargo_lock_verify.specs.Document.{FoundData, compared_json, found_json}
 use Rattle.cargo_lock_verify.specs.declared.class.Counts.{Counts}
 use Rattle.cargo_lock_verify.specs.declared.document.Compared.TheVariants.{Folders}
@@ -81,22 +82,32 @@ folder_finding_expected (Link p f path) = None
 folder_finding_expected (NoChecksum p) = None
 folder_finding_expected (OfEntry path f) = None
 
--- what the document says of a finding
-abbrev pub said_of_folder_finding : FolderFindingData → FoundData
-said_of_folder_finding f = record {
+-- the number of the line of the package of a finding, where it has one and it is known
+abbrev pub folder_finding_line_in : LinesData → FolderFindingData → Option ℕ
+folder_finding_line_in lines f = line_of_some lines (folder_finding_package f)
+
+-- what the document says of a finding at a line
+abbrev pub said_of_folder_finding : Option ℕ → FolderFindingData → FoundData
+said_of_folder_finding line f = record {
   kind = folder_finding_kind f;
   message = folder_finding_line f;
+  line = line;
   content = folder_finding_package f;
   path = folder_finding_path f;
   digest = folder_finding_digest f;
   expected = folder_finding_expected f;
 }
 
--- the JSON of a finding
-abbrev pub folder_finding_json : FolderFindingData → Json
-folder_finding_json f = found_json (said_of_folder_finding f)
+-- the JSON of a finding at a line
+abbrev pub folder_finding_json : Option ℕ → FolderFindingData → Json
+folder_finding_json line f = found_json (said_of_folder_finding line f)
 
--- how many packages are in each class, and the findings, each once and in order
-abbrev pub folders_json : FileData → Counts → List FolderFindingData → Json
-folders_json file counts findings =
-    compared_json Folders file counts (map folder_finding_json findings)
+-- the JSON of a finding, by the lines of the packages
+abbrev pub lined_folder_json : LinesData → FolderFindingData → Json
+lined_folder_json lines f = folder_finding_json (folder_finding_line_in lines f) f
+
+-- how many packages are in each class, and the findings, each once and in order, by the lines of the
+-- packages
+abbrev pub folders_json : FileData → LinesData → Counts → List FolderFindingData → Json
+folders_json file lines counts findings =
+    compared_json Folders file counts (map (lined_folder_json lines) findings)

@@ -12,3 +12,4 @@ pub mod VendorReport
 pub mod Document
 pub mod ArchivesDocument
 pub mod FoldersDocument
+pub mod Reporting

@@ -7,9 +7,9 @@ use Rattle.std.specs.List.{Contains, flat_map}
 use Rattle.std.specs.Option.{option_eq}
 use Rattle.cargo_lock_parts.specs.Checksum.{digest_of}
 use Rattle.cargo_lock_parts.specs.Identity.{PackageData}
-use Rattle.cargo_lock_parts.specs.Source.{Source}
+use Rattle.cargo_lock_parts.specs.Source.{Source, is_of_registry}
 use Rattle.cargo_lock_parts.specs.declared.package.checksum.Checksum.{Checksum}
-use Rattle.cargo_lock_verify.specs.Class.{counts_of, is_of_registry}
+use Rattle.cargo_lock_verify.specs.Class.{counts_of}
 use Rattle.cargo_lock_verify.specs.declared.class.Class.{Class}
 use Rattle.cargo_lock_verify.specs.declared.class.Class.TheVariants as class
 use Rattle.cargo_lock_verify.specs.declared.class.Counts.{Counts}

@@ -19,45 +19,55 @@ use crate::document::{Compared, compared_document};
 use crate::finding::Finding;
 use crate::report::Report;
 use cargo_lock_display::{File, put_digest_or_null, put_package_or_null};
+use cargo_lock_location::{Lined, PackageLines, locate, put_line};
 use cargo_lock_parts::package::{Checksum, Package};
-use printing::{JsonWriter, ToJson, write_text_or_null};
+use printing::{JsonWriter, write_text_or_null};
 use std::alloc::{AllocError, Global};
 
 /// The document of what is found of archives, in one line:
 /// `{"schema":"cargo-lock-verify/2","path":"Cargo.lock","format":4,"matches":2,"changed":0,..}`.
-/// Fails when out of memory.
+/// Each finding is at the line of its package, by these lines. Fails when out of memory.
 ///
 /// ```
-/// let text = archives_json(rt.alloc(), &file, &report)?;
+/// let text = archives_json(rt.alloc(), file, report, lines)?;
 /// ```
 pub fn archives_json(
     alloc: Global,
     file: &File<'_>,
     report: &Report<'_, '_>,
+    lines: &PackageLines<'_>,
 ) -> Result<String, AllocError>
     ensures { IfOk result (λ text. IsJsonText
-        (spec.archives_json file.now report.now.counts report.now.others
+        (spec.archives_json file.now lines.now report.now.counts report.now.others
         (map archive_finding_of report.now.findings.items)) (string_bytes text)) }
 {
+    let findings = locate(alloc, &report.findings, lines)?;
     compared_document(
         alloc,
         file,
         Compared::Archives(report.others),
         report.counts,
-        &report.findings,
+        &findings,
     )
 }
 
-impl ToJson for Finding<'_, '_> {
+impl Lined for Finding<'_, '_> {
     ghost use Rattle.cargo_lock_verify.specs.Archives.{archive_finding_of};
-    ghost use Rattle.cargo_lock_verify.specs.ArchivesDocument.{archive_finding_json};
+    ghost use Rattle.cargo_lock_verify.specs.ArchivesDocument.{archive_finding_json, archive_finding_line_in};
 
-    ghost json = { λ finding. archive_finding_json (archive_finding_of finding) };
+    ghost line_in = { λ lines finding. archive_finding_line_in lines (archive_finding_of finding) };
 
-    fn write_json(&self, out: &mut JsonWriter) -> Result<(), AllocError> {
+    ghost json_at = { λ line finding. archive_finding_json line (archive_finding_of finding) };
+
+    fn line(&self, lines: &PackageLines<'_>) -> Option<usize> {
+        lines.of(package(self))
+    }
+
+    fn write_json_at(&self, line: Option<usize>, out: &mut JsonWriter) -> Result<(), AllocError> {
         out.begin_object()?;
         out.string_member("kind", kind(self))?;
         out.displayed_member("message", self)?;
+        put_line(out, line)?;
         put_package_or_null(out, "package", Some(package(self)))?;
         write_text_or_null(out, "path", path(self))?;
         put_digest_or_null(out, "digest", &digest(self))?;
@@ -67,7 +77,7 @@ impl ToJson for Finding<'_, '_> {
 }
 
 // The kind of a finding, as the document has it.
-fn kind(finding: &Finding<'_, '_>) -> &'static str
+pub(crate) fn kind(finding: &Finding<'_, '_>) -> &'static str
     ensures { result.now ≡ archive_finding_kind (archive_finding_of finding.now) }
 {
     match finding {
@@ -78,7 +88,7 @@ fn kind(finding: &Finding<'_, '_>) -> &'static str
 }
 
 // The package of the finding.
-fn package<'p>(finding: &Finding<'p, '_>) -> &'p Package
+pub(crate) fn package<'p>(finding: &Finding<'p, '_>) -> &'p Package
     ensures { result.now ≡ archive_finding_package (archive_finding_of finding.now) }
 {
     match *finding {

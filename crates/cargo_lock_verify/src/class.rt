@@ -3,8 +3,6 @@
 ghost use Rattle.std.specs.Prelude.{◌≡◌, count_by};
 ghost use Rattle.cargo_lock_verify.specs.Class as spec;
 
-use cargo_lock_parts::package::SourceId;
-
 /// What is known of a package by a comparison. Each package is in exactly one class.
 #[derive(Debug, Clone, Copy, PartialEq, Eq)]
 pub enum Class {
@@ -106,14 +104,4 @@ fn count(classes: &[Class], class: Class) -> usize
         }
     }
     number
-}
-
-/// Whether there is a source, and it is a registry.
-pub(crate) fn is_of_registry(source: &Option<SourceId>) -> bool
-    ensures { result ≡ spec.is_of_registry source.now }
-{
-    match source {
-        Some(source) => source.is_registry(),
-        None => false,
-    }
 }

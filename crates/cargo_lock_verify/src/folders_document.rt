@@ -21,8 +21,9 @@ use crate::entry::Flaw;
 use crate::folder::{Folder, FolderFinding};
 use crate::vendor_report::VendorReport;
 use cargo_lock_display::{File, put_digest_or_null, put_package_or_null};
+use cargo_lock_location::{Lined, PackageLines, locate, put_line};
 use cargo_lock_parts::package::{Checksum, Package};
-use printing::{JsonWriter, ToJson};
+use printing::JsonWriter;
 use std::alloc::{AllocError, Global};
 use std::collections::BTreeMap;
 
@@ -30,36 +31,42 @@ use std::collections::BTreeMap;
 /// archives. Fails when out of memory.
 ///
 /// ```
-/// let text = folders_json(rt.alloc(), &file, report)?;
+/// let text = folders_json(rt.alloc(), file, report, lines)?;
 /// ```
 pub fn folders_json(
     alloc: Global,
     file: &File<'_>,
     report: &VendorReport<'_, '_>,
+    lines: &PackageLines<'_>,
 ) -> Result<String, AllocError>
     ensures { IfOk result (λ text. IsJsonText
-        (spec.folders_json file.now report.now.counts
+        (spec.folders_json file.now lines.now report.now.counts
         (map folder_finding_of report.now.findings.items)) (string_bytes text)) }
 {
-    compared_document(
-        alloc,
-        file,
-        Compared::Folders,
-        report.counts,
-        &report.findings,
-    )
+    let findings = locate(alloc, &report.findings, lines)?;
+    compared_document(alloc, file, Compared::Folders, report.counts, &findings)
 }
 
-impl ToJson for FolderFinding<'_, '_> {
+impl Lined for FolderFinding<'_, '_> {
     ghost use Rattle.cargo_lock_verify.specs.Vendored.{folder_finding_of};
-    ghost use Rattle.cargo_lock_verify.specs.FoldersDocument.{folder_finding_json};
+    ghost use Rattle.cargo_lock_verify.specs.FoldersDocument.{folder_finding_json, folder_finding_line_in};
 
-    ghost json = { λ finding. folder_finding_json (folder_finding_of finding) };
+    ghost line_in = { λ lines finding. folder_finding_line_in lines (folder_finding_of finding) };
 
-    fn write_json(&self, out: &mut JsonWriter) -> Result<(), AllocError> {
+    ghost json_at = { λ line finding. folder_finding_json line (folder_finding_of finding) };
+
+    fn line(&self, lines: &PackageLines<'_>) -> Option<usize> {
+        match package(self) {
+            Some(package) => lines.of(package),
+            None => None,
+        }
+    }
+
+    fn write_json_at(&self, line: Option<usize>, out: &mut JsonWriter) -> Result<(), AllocError> {
         out.begin_object()?;
         out.string_member("kind", kind(self))?;
         out.displayed_member("message", self)?;
+        put_line(out, line)?;
         put_package_or_null(out, "package", package(self))?;
         put_path(out, self)?;
         put_digest_or_null(out, "digest", &digest(self))?;
@@ -69,7 +76,7 @@ impl ToJson for FolderFinding<'_, '_> {
 }
 
 // The kind of a finding, as the document has it.
-fn kind(finding: &FolderFinding<'_, '_>) -> &'static str
+pub(crate) fn kind(finding: &FolderFinding<'_, '_>) -> &'static str
     ensures { result.now ≡ folder_finding_kind (folder_finding_of finding.now) }
 {
     match finding {
@@ -97,7 +104,7 @@ fn flaw_kind(flaw: Flaw) -> &'static str
 }
 
 // The package of the finding, which an entry has not.
-fn package<'p>(finding: &FolderFinding<'p, '_>) -> Option<&'p Package>
+pub(crate) fn package<'p>(finding: &FolderFinding<'p, '_>) -> Option<&'p Package>
     ensures { option_map (λ p. p.now) result
         ≡ folder_finding_package (folder_finding_of finding.now) }
 {

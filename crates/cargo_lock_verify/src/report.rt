@@ -29,6 +29,9 @@ pub struct Report<'p, 'a> {
     /// How many archives are passed over: they lie in index folders of other registries, and no package
     /// of their name and version has their digest.
     pub others: usize,
+
+    /// Whether all packages are asked for: then one without an archive counts too.
+    pub is_of_all: bool,
 }
 
 impl<'p, 'a> Report<'p, 'a> {
@@ -41,6 +44,7 @@ impl<'p, 'a> Report<'p, 'a> {
             ≡ archive_counts (cache_of cache.now)) }
         ensures others { IfOk result (λ report. report.others
             ≡ length (archives_of_others (cache_of cache.now))) }
+        ensures all { IfOk result (λ report. report.is_of_all ≡ all) }
     {
         let counts = counts_of(alloc, cache)?;
         let others = count_of_others(alloc, cache)?;
@@ -49,6 +53,7 @@ impl<'p, 'a> Report<'p, 'a> {
             findings,
             counts,
             others,
+            is_of_all: all,
         })
     }
 }

@@ -10,10 +10,10 @@ ghost use Rattle.cargo_lock_verify.specs.Archives.{class_of_unchecked, class_wit
 ghost use Rattle.cargo_lock_verify.specs.Archives.{found_if, found_in, found_of_unchecked};
 ghost use Rattle.cargo_lock_verify.specs.Archives.{found_unless, is_changed, is_digest};
 
-use crate::class::{Class, is_of_registry};
+use crate::class::Class;
 use crate::finding::{Archive, Finding};
 use crate::judge::Judge;
-use cargo_lock_parts::package::{Checksum, Package};
+use cargo_lock_parts::package::{Checksum, Package, is_of_registry};
 use std::alloc::{AllocError, Global};
 
 /// A package, and the archives of its name and version.

@@ -10,9 +10,8 @@ ghost use Rattle.cargo_lock_verify.specs.Vendored.{folder_found, folders_found, 
 ghost use Rattle.cargo_lock_verify.specs.Vendored.{links_found, listed_found, listed_of, of_file};
 ghost use Rattle.cargo_lock_verify.specs.Vendored.{of_listed, vendored_found, vendored_of};
 
-use crate::class::is_of_registry;
 use crate::folder::{FileDigests, Folder, FolderFinding, Vendored};
-use cargo_lock_parts::package::{Checksum, Package};
+use cargo_lock_parts::package::{Checksum, Package, is_of_registry};
 use std::alloc::{AllocError, Global};
 
 /// What is wrong with the folders of packages, in the order of the packages and of their folders: a

@@ -42,24 +42,26 @@ name_of Verify = codes "verify"
 name_of Why = codes "why"
 
 -- what a command leaves with the options that were found, and its status: `audit`, `check`, `diff`,
--- `duplicates`, `licenses`, `merge` and `verify` may end with failure if they found something, and
--- each other one ends with success
+-- `duplicates`, `licenses`, `merge` and `verify` may end with failure if they found something, `check`
+-- with that of a fault if it did not read each of several lockfiles, and each other one ends with
+-- success
 abbrev pub Follows : Chosen → Found → Option (List ℕ) → Option (List ℕ) → Type 0 → Type 0 → Type 0
-Follows Audit found old new failure success = PrintsAudit found old new failure success
-Follows Bom found old new failure success = PrintsBill found old new × success
-Follows Check found old new failure success = (counts : List ℕ)
-    × PrintsCheck found counts old new failure success
-Follows Diff found old new failure success = PrintsDifference found old new failure success
-Follows Duplicates found old new failure success = PrintsDuplicates found old new failure success
-Follows Graph found old new failure success = DrawsGraph found old new × success
-Follows Json found old new failure success = PrintsLockfile found old new × success
-Follows Licenses found old new failure success = PrintsLicenses found old new failure success
-Follows Listing found old new failure success = PrintsList found old new × success
-Follows Merge found old new failure success = PrintsMerge found old new failure success
-Follows Translate found old new failure success = PrintsTranslation found old new × success
-Follows Tree found old new failure success = PrintsTrees found old new × success
-Follows Verify found old new failure success = PrintsVerified found old new failure success
-Follows Why found old new failure success = PrintsWhy found old new × success
+    → Type 0
+Follows Audit found old new failure success fault = PrintsAudit found old new failure success
+Follows Bom found old new failure success fault = PrintsBill found old new × success
+Follows Check found old new failure success fault = (counts : List ℕ)
+    × PrintsCheck found counts old new failure success fault
+Follows Diff found old new failure success fault = PrintsDifference found old new failure success
+Follows Duplicates found old new failure success fault = PrintsDuplicates found old new failure success
+Follows Graph found old new failure success fault = DrawsGraph found old new × success
+Follows Json found old new failure success fault = PrintsLockfile found old new × success
+Follows Licenses found old new failure success fault = PrintsLicenses found old new failure success
+Follows Listing found old new failure success fault = PrintsList found old new × success
+Follows Merge found old new failure success fault = PrintsMerge found old new failure success
+Follows Translate found old new failure success fault = PrintsTranslation found old new × success
+Follows Tree found old new failure success fault = PrintsTrees found old new × success
+Follows Verify found old new failure success fault = PrintsVerified found old new failure success
+Follows Why found old new failure success fault = PrintsWhy found old new × success
 
 -- the arguments name one of the commands that may write to standard error without a fault
 abbrev pub TellsMore : List (List ℕ) → Type 0
@@ -67,8 +69,8 @@ TellsMore words = IsCommandNamed (codes "merge") words ⊎ IsCommandNamed (codes
 
 -- a command is followed whose name and options the parse found
 pub record FollowsMatches (m : ArgMatches) (old new : Option (List ℕ))
-    (failure success : Type 0) : Type 0 where
+    (failure success fault : Type 0) : Type 0 where
   pub command : Chosen
   pub found : Found
   pub named : subcommand_rows_of m ≡ Some (name_of command, rows_of found)
-  pub follows : Follows command found old new failure success
+  pub follows : Follows command found old new failure success fault

@@ -1,23 +1,22 @@
-//! The command `check`: what is wrong with a lockfile.
-ghost use Rattle.std.specs.Prelude.{◌≡◌, IfOk, map, string_bytes};
+//! The command `check`: what is wrong with lockfiles.
+ghost use Rattle.std.specs.Prelude.{◌≡◌, IfOk, None, map, string_bytes};
+ghost use Rattle.std.specs.Process.{exit_status};
 ghost use Rattle.clap.specs.Matches.{found_of};
-ghost use Rattle.cargo_lock_check.specs.Finding.{lockfile_finding_of};
-ghost use Rattle.cli.specs.Check.{IsFindingsStatus, PrintsCheck, PrintsFindings, PrintsFindingsOf};
-ghost use Rattle.cli.specs.Check.{PrintsRefused, PrintsTold};
-ghost use Rattle.cli.specs.Ending.{counts_in, status_in};
+ghost use Rattle.cli.specs.Check.{IsFindingsStatus, PrintsCheck, PrintsCheckOf};
+ghost use Rattle.cli.specs.Check as spec;
+ghost use Rattle.cli.specs.Ending.{IsEnd, counts_in, status_in};
 
+use crate::checked::{Named, checked_text};
 use crate::counts::counts_line;
 use crate::ending::Ended;
-use crate::refused::report_table;
-use cargo_lock::{Error, Lockfile};
-use cargo_lock_check::{Finding, Findings, findings_json};
-use cargo_lock_display::File;
-use clap::{ArgMatches, Command};
-use cli_input::answer::{Answer, print_answer};
-use cli_input::load::{file, named_text, refusal};
+use crate::several::check_several;
+use clap::{Arg, ArgAction, ArgMatches, Command};
+use cli_input::findings::{asked_form, print_told};
+use cli_input::load::text_at;
+use cli_input::subject::report_path;
 use cli_support::{Fault, words};
 use std::alloc::{AllocError, Global};
-use std::fmt;
+use std::env::Env;
 use std::io::{Input, Write};
 use std::process::ExitCode;
 use std::rt::Files;
@@ -56,11 +55,26 @@ and where all of them read, one for each reference that is of nothing:
   reference: PACKAGE depends on NAME, which is named without a version
   reference: PACKAGE is replaced by NAME, which is named without a version
 
-On standard error is a line of counts, where anything is found or it is a terminal. The status is \
-1 where anything is found, and 2 where the lockfile cannot be read for another reason.";
+Of several lockfiles each line has the path before it, as `PATH: order: ..`, and with --json each has \
+a line of JSON.
 
-/// The parser of this command: its options.
+On standard error is a line of counts, where anything is found or it is a terminal. The status is \
+1 where anything is found, and 2 where a lockfile cannot be read for another reason.";
+
+/// The paths, as help shows them.
+const PATHS_HELP: &str = "Lockfiles in place of that of --file, - for standard input";
+
+/// The parser of this command: its options and the paths of lockfiles.
 pub(crate) fn command<'a>(alloc: Global) -> Result<Command<'a>, AllocError> {
+    let command = with_lockfile(alloc)?;
+    command
+        .arg(words::format(alloc)?)?
+        .arg(words::name(alloc)?)?
+        .arg(paths(alloc)?)
+}
+
+/// The parser with the options for one lockfile, and for a document.
+fn with_lockfile<'a>(alloc: Global) -> Result<Command<'a>, AllocError> {
     Command::new(alloc, "check")
         .about("Prints what is wrong with a lockfile")
         .after_help(FINDINGS_HELP)
@@ -69,141 +83,106 @@ pub(crate) fn command<'a>(alloc: Global) -> Result<Command<'a>, AllocError> {
         .arg(words::json(alloc)?)
 }
 
-/// Prints what is wrong with the lockfile, a line for each finding, or, if the arguments ask for
-/// it, all as one line of JSON. The status is 1 if there is a finding, and otherwise 0. Of a text
-/// that is no lockfile it prints what keeps its table from being one. Returns how it ended, with a
-/// line of counts. Fails if the text is no table, or nothing of that is found in it, or `out`
-/// fails; a prefix of the text was then written in the last case, and nothing in the others.
-pub(crate) fn run<R: Files + Input + AllocGlobal, W: Write>(
+/// The argument for lockfiles.
+fn paths<'a>(alloc: Global) -> Result<Arg<'a>, AllocError> {
+    Arg::new(alloc, "paths")
+        .value_name("PATH")
+        .action(ArgAction::Append)
+        .help(PATHS_HELP)
+        .conflicts_with("file")
+}
+
+/// Prints what is wrong with the lockfile, a line for each finding, or, if the arguments ask for it,
+/// all as one line of JSON, or as a report. The status is 1 if there is a finding, and otherwise 0. Of
+/// a text that is no lockfile it prints what keeps its table from being one. Returns how it ended,
+/// with a line of counts. Fails if the text is no table, or nothing of that is found in it, or `out`
+/// fails; a prefix of the text was then written in the last case, and nothing in the others. If the
+/// arguments name several lockfiles, it prints what is wrong with each that reads, and the status is
+/// 2 if one does not.
+pub(crate) fn run<R: Files + Input + Env + AllocGlobal, W: Write>(
     rt: &R,
     options: &ArgMatches<'_>,
     out: &mut W,
 ) -> Result<Ended, Fault>
-    ensures { IfOk result (λ ended. PrintsCheck (found_of options.now) (counts_in ended)
+    ensures printed { IfOk result (λ ended. PrintsCheck (found_of options.now) (counts_in ended)
+        (W.contents out.old) (W.contents out.new)
+        (status_in ended ≡ ExitCode.FAILURE) (status_in ended ≡ ExitCode.SUCCESS)
+        (exit_status (status_in ended) ≡ 2)) }
+    ensures end { IfOk result IsEnd }
+{
+    match given_paths(options) {
+        [] => check_one(rt, options, words::given_path(options, "file"), out),
+        [argument] => check_one(rt, options, argument, out),
+        arguments => check_several(rt, options, arguments, out),
+    }
+}
+
+/// The paths that the arguments have.
+fn given_paths<'a>(options: &'a ArgMatches<'_>) -> &'a [&'a str]
+    ensures { map (λ path. path.now) result.now ≡ spec.given_paths (found_of options.now) }
+{
+    options.get_strs("paths").unwrap_or(&[])
+}
+
+/// Prints what is wrong with the lockfile at this path.
+fn check_one<R: Files + Input + Env + AllocGlobal, W: Write>(
+    rt: &R,
+    options: &ArgMatches<'_>,
+    argument: &str,
+    out: &mut W,
+) -> Result<Ended, Fault>
+    ensures printed { IfOk result (λ ended. PrintsCheckOf (found_of options.now) argument.now
+        (counts_in ended) (W.contents out.old) (W.contents out.new)
+        (status_in ended ≡ ExitCode.FAILURE) (status_in ended ≡ ExitCode.SUCCESS)) }
+    ensures end { IfOk result IsEnd }
+{
+    let path = report_path(rt, options, argument)?;
+    let text = text_at(rt, options, argument)?;
+    let named = named_alone(argument, path.as_str());
+    print_check(rt.alloc(), options, named, text.as_str(), out)
+}
+
+/// The names of a lockfile that is the only one, with nothing before its lines.
+fn named_alone<'a>(argument: &'a str, path: &'a str) -> Named<'a>
+    ensures { spec.named_of result
+        ≡ record { argument = argument.now; path = path.now; prefix = None } }
+{
+    Named {
+        argument,
+        path,
+        prefix: None,
+    }
+}
+
+/// Prints what is wrong with the text of a lockfile.
+fn print_check<W: Write>(
+    alloc: Global,
+    options: &ArgMatches<'_>,
+    named: Named<'_>,
+    text: &str,
+    out: &mut W,
+) -> Result<Ended, Fault>
+    ensures printed { IfOk result (λ ended. spec.PrintsText (found_of options.now)
+        (spec.named_of named.entry) text.now (counts_in ended)
         (W.contents out.old) (W.contents out.new)
         (status_in ended ≡ ExitCode.FAILURE) (status_in ended ≡ ExitCode.SUCCESS)) }
+    ensures end { IfOk result IsEnd }
 {
-    let file = named_text(rt, options, "file")?;
-    let text = file.as_str();
-    match Lockfile::from_str(rt.alloc(), text) {
-        Ok(lockfile) => report(rt.alloc(), options, text, &lockfile, out),
-        Err(error) => report_refused(rt.alloc(), options, text, error, out),
-    }
+    let form = asked_form(options);
+    let checked = checked_text(alloc, options, form, named, text)?;
+    let counts = counts_line(alloc, checked.packages, checked.findings)?;
+    print_told(alloc, form, &checked.told, out)?;
+    Ok(ended(checked.findings, counts))
 }
 
-/// Prints what keeps a text from being read, where its table says it. Fails with the error of
-/// reading it, which is this one, where the text is no table or nothing is found in it.
-fn report_refused<W: Write>(
-    alloc: Global,
-    options: &ArgMatches<'_>,
-    text: &str,
-    error: Error,
-    out: &mut W,
-) -> Result<Ended, Fault>
-    ensures { IfOk result (λ ended. PrintsRefused (found_of options.now) text.now
-        (counts_in ended) (W.contents out.old) (W.contents out.new)
-        (status_in ended ≡ ExitCode.FAILURE)) }
-{
-    let Error::Parse(_) = &error else {
-        return Err(refusal(alloc, options, "file", text, error));
-    };
-    match report_table(alloc, options, text, out) {
-        Ok(Some(counts)) => Ok(Ended::Found(counts)),
-        Ok(None) => Err(refusal(alloc, options, "file", text, error)),
-        Err(fault) => Err(fault),
-    }
-}
-
-/// Prints what is wrong with a lockfile that was read from a text.
-fn report<W: Write>(
-    alloc: Global,
-    options: &ArgMatches<'_>,
-    text: &str,
-    lockfile: &Lockfile,
-    out: &mut W,
-) -> Result<Ended, Fault>
-    ensures { IfOk result (λ ended. PrintsFindingsOf (found_of options.now)
-        text.now lockfile.now (counts_in ended) (W.contents out.old) (W.contents out.new)
-        (status_in ended ≡ ExitCode.FAILURE) (status_in ended ≡ ExitCode.SUCCESS)) }
-{
-    let findings = Findings::of(alloc, text, lockfile)?;
-    let file = file(options, "file", lockfile);
-    report_findings(alloc, options, &file, &findings, out)
-}
-
-/// Prints the findings.
-fn report_findings<W: Write>(
-    alloc: Global,
-    options: &ArgMatches<'_>,
-    file: &File<'_>,
-    findings: &Findings<'_>,
-    out: &mut W,
-) -> Result<Ended, Fault>
-    ensures { IfOk result (λ ended. PrintsFindings (found_of options.now) file.now findings.now
-        (counts_in ended) (W.contents out.old) (W.contents out.new)
-        (status_in ended ≡ ExitCode.FAILURE) (status_in ended ≡ ExitCode.SUCCESS)) }
-{
-    let all = findings.all(alloc)?;
-    print_told(alloc, options, file, findings.packages.len(), &all, out)
-}
-
-/// Prints all findings of so many packages.
-fn print_told<W: Write>(
-    alloc: Global,
-    options: &ArgMatches<'_>,
-    file: &File<'_>,
-    packages: usize,
-    all: &[Finding<'_>],
-    out: &mut W,
-) -> Result<Ended, Fault>
-    ensures { IfOk result (λ ended. PrintsTold (found_of options.now) file.now packages
-        (map lockfile_finding_of all.now)
-        (counts_in ended) (W.contents out.old) (W.contents out.new)
-        (status_in ended ≡ ExitCode.FAILURE) (status_in ended ≡ ExitCode.SUCCESS)) }
-{
-    let counts = counts_line(alloc, packages, all.len())?;
-    print_answer(alloc, options, file, &Told(all), out)?;
-    Ok(ended(all, counts))
-}
-
-/// All findings. `Display` writes them in their order, each with its newline.
-#[derive(Clone, Copy)]
-struct Told<'a, 'f>(&'a [Finding<'f>]);
-
-impl fmt::Display for Told<'_, '_> {
-    ghost use Rattle.std.specs.Prelude.{Some, map};
-    ghost use Rattle.cargo_lock_check.specs.Finding.{lockfile_finding_of, lockfile_findings_text};
-
-    ghost output = { λ told. Some (lockfile_findings_text (map lockfile_finding_of told.0.now)) };
-
-    fn fmt<W: fmt::Write>(&self, f: &mut fmt::Formatter<W>) -> fmt::Result {
-        let Told(findings) = *self;
-        for finding in findings {
-            write!(f, "{finding}\n")?;
-        }
-        Ok(())
-    }
-}
-
-impl Answer for Told<'_, '_> {
-    ghost use Rattle.std.specs.Prelude.{map};
-    ghost use Rattle.cargo_lock_check.specs.Finding.{lockfile_finding_of};
-    ghost use Rattle.cargo_lock_check.specs.Document.{findings_json};
-
-    ghost json = { λ file told. findings_json file (map lockfile_finding_of told.0.now) };
-
-    fn document(&self, alloc: Global, file: &File<'_>) -> Result<String, AllocError> {
-        findings_json(alloc, file, self.0)
-    }
-}
-
-/// How `check` ends with these findings and this line of counts.
-fn ended(findings: &[Finding<'_>], counts: String) -> Ended
-    ensures status { IsFindingsStatus (map lockfile_finding_of findings.now)
+/// How `check` ends where so much is found, with this line of counts.
+pub(crate) fn ended(findings: usize, counts: String) -> Ended
+    ensures status { IsFindingsStatus findings
         (status_in result ≡ ExitCode.FAILURE) (status_in result ≡ ExitCode.SUCCESS) }
     ensures counts { counts_in result ≡ string_bytes counts }
+    ensures end { IsEnd result }
 {
-    if findings.is_empty() {
+    if findings == 0 {
         Ended::FoundNothing(counts)
     } else {
         Ended::Found(counts)

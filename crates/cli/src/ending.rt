@@ -1,8 +1,10 @@
 //! How a command ends.
 
 ghost use Rattle.std.specs.Prelude.{◌≡◌, ◌↔◌, IsTrue};
+ghost use Rattle.cli.specs.Ending.{IsEnd, status_in};
 ghost use Rattle.cli.specs.declared.ending.Reader.TheVariants.{Person};
 
+use cli_support::Fault;
 use std::process::ExitCode;
 
 /// How a command ends without a fault.
@@ -19,6 +21,20 @@ pub(crate) enum Ended {
 
     /// Without findings, and with a line that counts what was looked at, for a person.
     FoundNothing(String),
+
+    /// With the status of a fault, since lockfiles were not read, the faults of these, and a line that
+    /// counts what was found in the others.
+    NotAllRead(ExitCode, Vec<Fault>, String),
+}
+
+impl Ended {
+    // How a command ends that returns nothing: with success, and without lines.
+    pub(crate) fn success(_: ()) -> Ended
+        ensures status { status_in result ≡ ExitCode.SUCCESS }
+        ensures end { IsEnd result }
+    {
+        Ended::Silent(ExitCode::SUCCESS)
+    }
 }
 
 /// Who reads standard error.

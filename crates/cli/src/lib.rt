@@ -12,17 +12,20 @@
 
 ghost use Rattle.std.specs.Prelude.{◌≡◌, ◌⊎◌, IfErr, IfOk, IfSome, codes, map};
 ghost use Rattle.std.specs.Io.KnownBytes.{Keeps};
+ghost use Rattle.std.specs.Process.{exit_status};
 ghost use Rattle.clap.specs.Matches.{found_of};
 ghost use Rattle.cli_support.specs.Status.{IsCommandNamed, IsFaultStatus};
 ghost use Rattle.cli.specs.Commands.{Follows, FollowsMatches, TellsMore, name_of};
-ghost use Rattle.cli.specs.Ending.{IsCountedFor, status_in};
+ghost use Rattle.cli.specs.Ending.{IsCountedFor, IsEnd, status_in};
 ghost use Rattle.cli.specs.declared.ending.Reader.TheVariants.{Person, Program};
 
 mod check;
+mod checked;
 mod counts;
 mod ending;
 mod merge;
 mod refused;
+mod several;
 
 use crate::ending::Ended;
 pub use crate::ending::Reader;
@@ -88,6 +91,7 @@ fn status_of<S: AsStr, E: Write>(
     outcome: Result<Ended, Fault>,
     reader: Reader,
 ) -> ExitCode
+    requires { IfOk outcome IsEnd }
     ensures status { IfOk outcome (λ ended. result ≡ status_in ended) }
     ensures ok { IfOk outcome (λ ended. (Keeps (E.contents err.old) (E.contents err.new))
         ⊎ (IsCommandNamed (codes "merge") (map S.text words.now)
@@ -114,7 +118,21 @@ fn status_of<S: AsStr, E: Write>(
             }
             ExitCode::SUCCESS
         }
+        Ok(Ended::NotAllRead(status, faults, counts)) => {
+            if words::name_command(words, "check") {
+                put_faults(err, &faults);
+                put_lines(err, &counts);
+            }
+            status
+        }
         Err(fault) => report(err, &fault, status::of_fault(words)),
+    }
+}
+
+/// Prints the messages of faults, each as `report` does.
+fn put_faults<E: Write>(err: &mut E, faults: &[Fault]) {
+    for one in faults {
+        let _ = put_message(err, one);
     }
 }
 
@@ -139,7 +157,9 @@ fn execute<R: Files + Input + Env + Clock + AllocGlobal, S: AsStr, W: Write>(
     rt: &R,
     words: &[S],
     out: &mut W,
-) -> Result<Ended, Fault> {
+) -> Result<Ended, Fault>
+    ensures { IfOk result IsEnd }
+{
     let words = words::with_command(rt.alloc(), words)?;
     let ended = match parser(rt.alloc())?.try_get_matches_from(words.as_slice()) {
         Ok(matches) => dispatch(rt, &matches, out)?,
@@ -228,9 +248,11 @@ fn dispatch<R: Files + Input + Env + Clock + AllocGlobal, W: Write>(
     matches: &ArgMatches<'_>,
     out: &mut W,
 ) -> Result<Ended, Fault>
-    ensures { IfOk result (λ ended. FollowsMatches matches.now
+    ensures follows { IfOk result (λ ended. FollowsMatches matches.now
         (W.contents out.old) (W.contents out.new)
-        (status_in ended ≡ ExitCode.FAILURE) (status_in ended ≡ ExitCode.SUCCESS)) }
+        (status_in ended ≡ ExitCode.FAILURE) (status_in ended ≡ ExitCode.SUCCESS)
+        (exit_status (status_in ended) ≡ 2)) }
+    ensures end { IfOk result IsEnd }
 {
     let Some((name, options)) = matches.subcommand() else {
         return Err(Fault::NoCommand);
@@ -248,45 +270,26 @@ fn follow<R: Files + Input + Env + Clock + AllocGlobal, W: Write>(
     options: &ArgMatches<'_>,
     out: &mut W,
 ) -> Result<Ended, Fault>
-    ensures { IfOk result (λ ended. Follows command (found_of options.now)
+    ensures follows { IfOk result (λ ended. Follows command (found_of options.now)
         (W.contents out.old) (W.contents out.new)
-        (status_in ended ≡ ExitCode.FAILURE) (status_in ended ≡ ExitCode.SUCCESS)) }
+        (status_in ended ≡ ExitCode.FAILURE) (status_in ended ≡ ExitCode.SUCCESS)
+        (exit_status (status_in ended) ≡ 2)) }
+    ensures end { IfOk result IsEnd }
 {
     match command {
         Chosen::Audit => Ok(Ended::Silent(audit::run(rt, options, out)?)),
-        Chosen::Bom => {
-            bom::run(rt, options, out)?;
-            Ok(Ended::Silent(ExitCode::SUCCESS))
-        }
+        Chosen::Bom => Ok(Ended::success(bom::run(rt, options, out)?)),
         Chosen::Check => check::run(rt, options, out),
         Chosen::Diff => Ok(Ended::Silent(diff::run(rt, options, out)?)),
         Chosen::Duplicates => Ok(Ended::Silent(duplicates::run(rt, options, out)?)),
-        Chosen::Graph => {
-            graph::run(rt, options, out)?;
-            Ok(Ended::Silent(ExitCode::SUCCESS))
-        }
-        Chosen::Json => {
-            json::run(rt, options, out)?;
-            Ok(Ended::Silent(ExitCode::SUCCESS))
-        }
+        Chosen::Graph => Ok(Ended::success(graph::run(rt, options, out)?)),
+        Chosen::Json => Ok(Ended::success(json::run(rt, options, out)?)),
         Chosen::Licenses => Ok(Ended::Silent(licenses::run(rt, options, out)?)),
-        Chosen::List => {
-            list::run(rt, options, out)?;
-            Ok(Ended::Silent(ExitCode::SUCCESS))
-        }
+        Chosen::List => Ok(Ended::success(list::run(rt, options, out)?)),
         Chosen::Merge => merge::run(rt, options, out),
-        Chosen::Translate => {
-            translate::run(rt, options, out)?;
-            Ok(Ended::Silent(ExitCode::SUCCESS))
-        }
-        Chosen::Tree => {
-            tree::run(rt, options, out)?;
-            Ok(Ended::Silent(ExitCode::SUCCESS))
-        }
+        Chosen::Translate => Ok(Ended::success(translate::run(rt, options, out)?)),
+        Chosen::Tree => Ok(Ended::success(tree::run(rt, options, out)?)),
         Chosen::Verify => Ok(Ended::Silent(verify::run(rt, options, out)?)),
-        Chosen::Why => {
-            why::run(rt, options, out)?;
-            Ok(Ended::Silent(ExitCode::SUCCESS))
-        }
+        Chosen::Why => Ok(Ended::success(why::run(rt, options, out)?)),
     }
 }

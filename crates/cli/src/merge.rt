@@ -3,7 +3,7 @@ ghost use Rattle.std.specs.Prelude.{◌≡◌, IfOk};
 ghost use Rattle.clap.specs.Matches.{found_of};
 ghost use Rattle.cargo_lock_merge.specs.MergedLockfiles.{MergesTo};
 ghost use Rattle.cli_input.specs.Load.{IsMeantWithCargoChecksums};
-ghost use Rattle.cli.specs.Ending.{status_in};
+ghost use Rattle.cli.specs.Ending.{IsEnd, status_in};
 ghost use Rattle.cli.specs.Merge.{AreCompared, IsMeantForMerge, PrintsMerge, PrintsMergeOf};
 ghost use Rattle.cli.specs.Merge.{triple_of_files};
 
@@ -12,11 +12,11 @@ use cargo_lock::{Error, Lockfile};
 use cargo_lock_merge::lockfiles::{LockfileMerge, MergeError, merge_lockfiles};
 use cargo_lock_merge::moved::moved_lines;
 use cargo_lock_merge::with_cargo_spelling;
-use clap::{Arg, ArgAction, ArgMatches, Command};
+use clap::{ArgMatches, Command};
 use cli_input::load::{compared_lockfile, lockfile_without_packages};
 use cli_support::Fault;
 use cli_support::destination::put_own_out;
-use cli_support::words::{any_size, is_standard, output};
+use cli_support::words::{any_size, is_standard, lockfile_path, output};
 use std::alloc::{AllocError, Global};
 use std::io::{ErrorKind, Input, Write};
 use std::process::ExitCode;
@@ -44,19 +44,11 @@ pub(crate) fn command<'a>(alloc: Global) -> Result<Command<'a>, AllocError> {
     Command::new(alloc, "merge")
         .about("Merges two lockfiles by packages, over their common ancestor")
         .after_help(MERGE_HELP)
-        .arg(path(alloc, "base", "BASE").help(BASE_HELP))?
-        .arg(path(alloc, "ours", "OURS").help(OURS_HELP))?
-        .arg(path(alloc, "theirs", "THEIRS").help(THEIRS_HELP))?
+        .arg(lockfile_path(alloc, "base", "BASE").help(BASE_HELP))?
+        .arg(lockfile_path(alloc, "ours", "OURS").help(OURS_HELP))?
+        .arg(lockfile_path(alloc, "theirs", "THEIRS").help(THEIRS_HELP))?
         .arg(any_size(alloc)?)?
         .arg(output(alloc))
-}
-
-/// The path of a lockfile, which help shows as `shown`.
-fn path<'a>(alloc: Global, name: &'a str, shown: &'a str) -> Arg<'a> {
-    Arg::new(alloc, name)
-        .value_name(shown)
-        .required(true)
-        .action(ArgAction::Set)
 }
 
 /// The lockfiles of a merge, with the checksums that Cargo reads, and crates.io as Cargo writes it.
@@ -76,9 +68,10 @@ pub(crate) fn run<R: Files + Input + AllocGlobal, W: Write>(
     options: &ArgMatches<'_>,
     out: &mut W,
 ) -> Result<Ended, Fault>
-    ensures { IfOk result (λ ended. PrintsMerge (found_of options.now)
+    ensures printed { IfOk result (λ ended. PrintsMerge (found_of options.now)
         (W.contents out.old) (W.contents out.new)
         (status_in ended ≡ ExitCode.FAILURE) (status_in ended ≡ ExitCode.SUCCESS)) }
+    ensures end { IfOk result IsEnd }
 {
     let three = three_lockfiles(rt, options)?;
     let merge = merge_of(rt.alloc(), &three)?;
@@ -177,9 +170,10 @@ fn put_merge<R: Files + AllocGlobal, W: Write>(
     merge: LockfileMerge<'_>,
     out: &mut W,
 ) -> Result<Ended, Fault>
-    ensures { IfOk result (λ ended. PrintsMergeOf (found_of options.now) merge.entry
+    ensures printed { IfOk result (λ ended. PrintsMergeOf (found_of options.now) merge.entry
         (W.contents out.old) (W.contents out.new)
         (status_in ended ≡ ExitCode.FAILURE) (status_in ended ≡ ExitCode.SUCCESS)) }
+    ensures end { IfOk result IsEnd }
 {
     match merge {
         LockfileMerge::Merged(_, text, moved) => {

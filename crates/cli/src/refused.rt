@@ -1,36 +1,40 @@
-//! What the command `check` prints of a table that is no lockfile.
-ghost use Rattle.std.specs.Prelude.{◌≡◌, IfOk, IfSome, option_map, string_bytes};
-ghost use Rattle.clap.specs.Matches.{found_of};
+//! What the command `check` finds in a table that is no lockfile.
+ghost use Rattle.std.specs.Prelude.{◌≡◌, ◌∷◌, [], IfOk, IfSome, option_map};
 ghost use Rattle.toml.specs.Parse.{parse_document};
 ghost use Rattle.toml.specs.View.{table_view};
-ghost use Rattle.cli.specs.Check.{PrintsTable, PrintsTableOf, PrintsTableReport};
-ghost use Rattle.cli.specs.Check.{PrintsUnresolved};
+ghost use Rattle.cli.specs.Check.{CheckedData, IsCheckedMembers, IsCheckedOne, IsCheckedTable};
+ghost use Rattle.cli.specs.Check.{IsCheckedUnresolved, checked_report, named_of};
 
-use crate::counts::counts_line;
+use crate::checked::{Checked, Named, Prefix};
+use cargo_lock_display::File;
 use cargo_lock_encoding::EncodableLockfile;
-use cargo_lock_table_flaws::{TableReport, table_values, unread_report, unresolved_report};
-use clap::ArgMatches;
-use cli_input::answer::print_answer;
-use cli_input::load::file_in;
+use cargo_lock_location::PackageLines;
+use cargo_lock_report::Reported;
+use cargo_lock_table_flaws::{
+    TableReport, reported_table_findings, table_findings_json, table_values, unread_report,
+    unresolved_report,
+};
+use cli_input::findings::{Findings, Form, Told};
+use cli_input::load::file_at;
+use cli_input::subject::Subject;
 use cli_support::Fault;
 use std::alloc::{AllocError, Global};
-use std::io::Write;
+use std::fmt;
 use toml::Table;
 
-/// Prints what keeps the table of a text from being read as a lockfile, if there is such a thing,
-/// and returns the line of counts. Otherwise nothing is written. Fails if `out` fails, and, before
-/// anything is written, when out of memory.
-pub(crate) fn report_table<W: Write>(
+/// What keeps the table of a text from being read as a lockfile, in this form, if there is such a
+/// thing. Fails when out of memory.
+pub(crate) fn checked_table(
     alloc: Global,
-    options: &ArgMatches<'_>,
+    form: Form,
+    named: Named<'_>,
     text: &str,
-    out: &mut W,
-) -> Result<Option<String>, Fault>
-    ensures { IfOk result (λ found. IfSome found (λ counts. PrintsTableOf (found_of options.now)
-        text.now (string_bytes counts) (W.contents out.old) (W.contents out.new))) }
+) -> Result<Option<Checked>, Fault>
+    ensures { IfOk result (λ found. IfSome found (λ checked. (c : CheckedData)
+        × IsCheckedTable (named_of named.entry) text.now c × IsCheckedOne form c checked)) }
 {
     match table_of(alloc, text)? {
-        Some(table) => report_members(alloc, options, &table, out),
+        Some(table) => checked_members(alloc, form, named, text, &table),
         None => Ok(None),
     }
 }
@@ -46,71 +50,137 @@ fn table_of(alloc: Global, text: &str) -> Result<Option<Table>, AllocError>
     }
 }
 
-/// Prints what keeps a table from being read, as `report_table` does: the values that do not read,
-/// and if there are none, the references that resolve to nothing.
-fn report_members<W: Write>(
+/// What keeps the table of a text from being read: the values that do not read, and if there are
+/// none, the references that resolve to nothing.
+fn checked_members(
     alloc: Global,
-    options: &ArgMatches<'_>,
+    form: Form,
+    named: Named<'_>,
+    text: &str,
     table: &Table,
-    out: &mut W,
-) -> Result<Option<String>, Fault>
-    ensures { IfOk result (λ found. IfSome found (λ counts. PrintsTable (found_of options.now)
-        (table_view table.now) (string_bytes counts)
-        (W.contents out.old) (W.contents out.new))) }
+) -> Result<Option<Checked>, Fault>
+    ensures { IfOk result (λ found. IfSome found (λ checked. (c : CheckedData)
+        × IsCheckedMembers (named_of named.entry) text.now (table_view table.now) c
+        × IsCheckedOne form c checked)) }
 {
     match unread_report(alloc, table)? {
-        Some(report) => print_report(alloc, options, &report, out),
-        None => report_references(alloc, options, table, out),
+        Some(report) => Ok(Some(checked_report(alloc, form, named, text, &report)?)),
+        None => checked_references(alloc, form, named, text, table),
     }
 }
 
-/// Prints the references of a table that resolve to nothing, as `report_table` does.
-fn report_references<W: Write>(
+/// The references of a table that resolve to nothing, if there are some.
+fn checked_references(
     alloc: Global,
-    options: &ArgMatches<'_>,
+    form: Form,
+    named: Named<'_>,
+    text: &str,
     table: &Table,
-    out: &mut W,
-) -> Result<Option<String>, Fault>
-    ensures { IfOk result (λ found. IfSome found (λ counts. PrintsTable (found_of options.now)
-        (table_view table.now) (string_bytes counts)
-        (W.contents out.old) (W.contents out.new))) }
+) -> Result<Option<Checked>, Fault>
+    ensures { IfOk result (λ found. IfSome found (λ checked. (c : CheckedData)
+        × IsCheckedMembers (named_of named.entry) text.now (table_view table.now) c
+        × IsCheckedOne form c checked)) }
 {
     match table_values(alloc, table)? {
-        Some(values) => report_unresolved(alloc, options, &values, out),
+        Some(values) => checked_unresolved(alloc, form, named, text, &values),
         None => Ok(None),
     }
 }
 
-/// Prints the references of these values that resolve to nothing, as `report_table` does.
-fn report_unresolved<W: Write>(
+/// The references of these values that resolve to nothing, if there are some.
+fn checked_unresolved(
     alloc: Global,
-    options: &ArgMatches<'_>,
+    form: Form,
+    named: Named<'_>,
+    text: &str,
     values: &EncodableLockfile,
-    out: &mut W,
-) -> Result<Option<String>, Fault>
-    ensures { IfOk result (λ found. IfSome found (λ counts. PrintsUnresolved
-        (found_of options.now) values.now (string_bytes counts)
-        (W.contents out.old) (W.contents out.new))) }
+) -> Result<Option<Checked>, Fault>
+    ensures { IfOk result (λ found. IfSome found (λ checked. (c : CheckedData)
+        × IsCheckedUnresolved (named_of named.entry) text.now values.now c
+        × IsCheckedOne form c checked)) }
 {
     match unresolved_report(alloc, values)? {
-        Some(report) => print_report(alloc, options, &report, out),
+        Some(report) => Ok(Some(checked_report(alloc, form, named, text, &report)?)),
         None => Ok(None),
     }
 }
 
-/// Prints a report. Returns the line of counts.
-fn print_report<W: Write>(
+/// What a report says of a text.
+fn checked_report(
     alloc: Global,
-    options: &ArgMatches<'_>,
+    form: Form,
+    named: Named<'_>,
+    text: &str,
     report: &TableReport<'_>,
-    out: &mut W,
-) -> Result<Option<String>, Fault>
-    ensures { IfOk result (λ found. IfSome found (λ counts. PrintsTableReport
-        (found_of options.now) report.now (string_bytes counts)
-        (W.contents out.old) (W.contents out.new))) }
+) -> Result<Checked, AllocError>
+    ensures { IfOk result (λ checked. IsCheckedOne form
+        (checked_report (named_of named.entry) text.now report.now) checked) }
 {
-    let file = file_in(options, "file", report.format);
-    let counts = counts_line(alloc, report.packages, report.findings.len())?;
-    print_answer(alloc, options, &file, report, out)?;
-    Ok(Some(counts))
+    let file = file_at(named.argument, report.format);
+    let subject = Subject {
+        file: &file,
+        path: named.path,
+        text,
+        packages: &[],
+    };
+    let all = AllOfTable {
+        prefix: named.prefix,
+        report,
+    };
+    let told = Told::of(alloc, form, subject, &all)?;
+    let findings = report.findings.len();
+    Ok(Checked::of_one(told, report.packages, findings))
+}
+
+/// The findings of a table. `Display` writes them in their order, each with its newline, and behind a
+/// path if there is one.
+#[derive(Clone, Copy)]
+struct AllOfTable<'a, 'f> {
+    prefix: Option<&'a str>,
+    report: &'a TableReport<'f>,
+}
+
+impl fmt::Display for AllOfTable<'_, '_> {
+    ghost use Rattle.std.specs.Prelude.{Some, option_map};
+    ghost use Rattle.cli.specs.Check.{table_text};
+
+    ghost output = { λ all. Some (table_text (option_map (λ t. t.now) all.prefix)
+        all.report.now.findings) };
+
+    fn fmt<W: fmt::Write>(&self, f: &mut fmt::Formatter<W>) -> fmt::Result {
+        let AllOfTable { prefix, report } = *self;
+        let prefix = Prefix(prefix);
+        let findings = report.findings.as_slice();
+        for finding in findings {
+            write!(f, "{prefix}{finding}\n")?;
+        }
+        Ok(())
+    }
+}
+
+impl Findings for AllOfTable<'_, '_> {
+    ghost use Rattle.cargo_lock_table_flaws.specs.Document.{table_findings_json};
+    ghost use Rattle.cargo_lock_table_flaws.specs.Reporting.{reported_table_findings};
+
+    ghost json = { λ file _ all. table_findings_json file all.report.now.findings };
+
+    ghost reported = { λ path _ all. reported_table_findings path all.report.now.findings };
+
+    fn document(
+        &self,
+        alloc: Global,
+        file: &File<'_>,
+        _lines: &PackageLines<'_>,
+    ) -> Result<String, AllocError> {
+        table_findings_json(alloc, file, self.report)
+    }
+
+    fn reports(
+        &self,
+        alloc: Global,
+        path: &str,
+        _lines: &PackageLines<'_>,
+    ) -> Result<Vec<Reported>, AllocError> {
+        reported_table_findings(alloc, path, self.report)
+    }
 }

@@ -1,5 +1,6 @@
 -- What `audit` prints, and its status.
-use Rattle.std.specs.Prelude.{◌≡◌, ◌<◌, ℕ, List, Option, None, Some, codes, false, option_map, true}
+use Rattle.std.specs.Prelude.{◌≡◌, ◌<◌, [], ◌∷◌, ℕ, List, Option, None, Some, codes, false}
+use Rattle.std.specs.Prelude.{option_map, true}
 use Rattle.std.specs.List.{list_any}
 use Rattle.clap.specs.Matches.{first_value}
 use Rattle.clap.specs.declared.parser.matches.Found.{Found}
@@ -10,25 +11,35 @@ use Rattle.cargo_lock_audit.specs.Database.{AreInOrderOfIds}
 use Rattle.cargo_lock_audit.specs.Lines.{audit_report_text}
 use Rattle.cargo_lock_audit.specs.Report.{ReportData, report_of}
 use Rattle.cargo_lock_audit.specs.Settings.{SettingsData}
+use Rattle.cargo_lock_audit.specs.Reporting.{reported_advisories}
 use Rattle.cargo_lock_encoding.specs.Lockfiles.{LockfileData}
+use Rattle.cargo_lock_encoding.specs.Means.{TextMeans}
 use Rattle.cargo_lock_audit.specs.Document.{advisories_json}
-use Rattle.cargo_lock_display.specs.File.{FileData}
 use Rattle.cargo_lock_parts.specs.Identity.{PackageData}
-use Rattle.cli_input.specs.Json.{PrintsAnswer, named_file_of}
+use Rattle.cli_input.specs.Told.{IsReportPath, LockfileFound, PrintsFound, SubjectData}
+use Rattle.cli_input.specs.Told.{found_in_lockfile}
+use Rattle.cli_input.specs.Told.{subject_of_lockfile}
+use Rattle.cli_support.specs.Input.{given_path_in}
 use Rattle.cli_folder_commands.specs.Settings.{AreSettings}
 
+-- what is found by a report on a lockfile
+abbrev pub found_by_audit : SubjectData → ReportData → LockfileFound
+found_by_audit s told = found_in_lockfile s (audit_report_text told)
+    (λ file lines. advisories_json file lines told)
+    (λ path lines. reported_advisories path lines told.findings)
+
 -- a report is printed, with the status of its findings
-pub record PrintsAudited (found : Found) (file : FileData) (told : ReportData)
+pub record PrintsAudited (found : Found) (s : SubjectData) (told : ReportData)
     (old new : Option (List ℕ)) (failure success : Type 0) : Type 0 where
-  pub printed : PrintsAnswer found (advisories_json file told) (audit_report_text told) old new
+  pub printed : PrintsFound found (found_by_audit s told ∷ []) old new
   pub some : list_any (λ f. f.is_denied) told.findings ≡ true → failure
   pub none : list_any (λ f. f.is_denied) told.findings ≡ false → success
 
 -- what is reported of what is audited, by settings and by these advisories, is printed
-abbrev pub PrintsAuditReport : Found → SettingsData → FileData → AuditedData → List AdvisoryData
+abbrev pub PrintsAuditReport : Found → SettingsData → SubjectData → AuditedData → List AdvisoryData
     → ℕ → Option (List ℕ) → Option (List ℕ) → Type 0 → Type 0 → Type 0
-PrintsAuditReport found settings file audited advisories size =
-    PrintsAudited found file (report_of settings audited advisories size)
+PrintsAuditReport found settings s audited advisories size =
+    PrintsAudited found s (report_of settings audited advisories size)
 
 -- advisories in the order of their ids, of a database that has this many, and one or more
 pub record IsSomeDatabase (advisories : List AdvisoryData) (size : ℕ) : Type 0 where
@@ -36,11 +47,11 @@ pub record IsSomeDatabase (advisories : List AdvisoryData) (size : ℕ) : Type 0
   pub some : 0 < size
 
 -- the same by the advisories of some database
-abbrev pub PrintsAuditOf : Found → SettingsData → FileData → AuditedData → Option (List ℕ)
+abbrev pub PrintsAuditOf : Found → SettingsData → SubjectData → AuditedData → Option (List ℕ)
     → Option (List ℕ) → Type 0 → Type 0 → Type 0
-PrintsAuditOf found settings file audited old new failure success =
+PrintsAuditOf found settings s audited old new failure success =
     (advisories : List AdvisoryData) × (size : ℕ) × IsSomeDatabase advisories size
-    × PrintsAuditReport found settings file audited advisories size old new failure success
+    × PrintsAuditReport found settings s audited advisories size old new failure success
 
 -- the older lockfile, if the arguments name one, is one that some text means
 abbrev pub IsOlder : Option (List ℕ) → Option LockfileData → Type 0
@@ -52,17 +63,18 @@ IsOlder path older = ⊥
 abbrev pub packages_before : Option LockfileData → Option (List PackageData)
 packages_before = option_map (λ l. l.packages)
 
--- the same of packages, since an older lockfile if the arguments name one
-abbrev pub PrintsAuditSince : Found → SettingsData → FileData → List PackageData
+-- the same of the packages of a lockfile, since an older one if the arguments name it
+abbrev pub PrintsAuditSince : Found → SettingsData → SubjectData
     → Option (List ℕ) → Option (List ℕ) → Type 0 → Type 0 → Type 0
-PrintsAuditSince found settings file packages old new failure success =
+PrintsAuditSince found settings s old new failure success =
     (older : Option LockfileData) × IsOlder (first_value found (codes "since")) older
-    × PrintsAuditOf found settings file (record { packages = packages; older = packages_before older })
-    old new failure success
+    × PrintsAuditOf found settings s
+    (record { packages = s.packages; older = packages_before older }) old new failure success
 
--- the same of the packages of a lockfile that some text means, by the settings of the arguments
+-- the same of a lockfile that some text means, by the settings of the arguments
 abbrev pub PrintsAudit : Found → Option (List ℕ) → Option (List ℕ) → Type 0 → Type 0 → Type 0
-PrintsAudit found old new failure success = (l : LockfileData) × (settings : SettingsData)
-    × IsMeant l × AreSettings found settings
-    × PrintsAuditSince found settings (named_file_of found (codes "file") l) l.packages old new
-    failure success
+PrintsAudit found old new failure success = (text path : List ℕ) × (l : LockfileData)
+    × (settings : SettingsData) × TextMeans text l
+    × IsReportPath found (given_path_in found (codes "file")) path × AreSettings found settings
+    × PrintsAuditSince found settings
+    (subject_of_lockfile (given_path_in found (codes "file")) path text l) old new failure success

@@ -10,22 +10,25 @@ ghost use Rattle.cargo_lock_audit.specs.Settings.{settings_of};
 ghost use Rattle.cli_folder_commands.specs.Audit.{IsOlder, IsSomeDatabase, PrintsAudit};
 ghost use Rattle.cli_folder_commands.specs.Audit.{PrintsAuditOf, PrintsAuditReport};
 ghost use Rattle.cli_folder_commands.specs.Audit.{PrintsAuditSince, packages_before};
+ghost use Rattle.cli_input.specs.Told.{subject_of};
 
 use crate::folders::folder;
 use crate::settings::settings_of;
 use crate::texts;
+use crate::texts::with_forms;
 use crate::verify::status_of;
 use cargo_lock::Lockfile;
 use cargo_lock::package::Package;
 use cargo_lock_audit::{Advisory, AdvisoryFile, Audited, Database, Report, Settings, database_of};
-use cargo_lock_display::File;
 use clap::{Arg, ArgAction, ArgMatches, Command};
 use cli_folders::{AdvisoryFiles, advisory_files, database_fault};
-use cli_input::answer::print_answer;
-use cli_input::load::{file, named_lockfile};
-use cli_support::words::{any_size, is_standard, json};
+use cli_input::findings::print_findings;
+use cli_input::load::{file, lockfile_with_text, named_lockfile};
+use cli_input::subject::{Subject, report_path};
+use cli_support::words::{any_size, is_standard};
 use cli_support::{Fault, words};
 use std::alloc::{AllocError, Global};
+use std::env::Env;
 use std::io::{Input, Write};
 use std::process::ExitCode;
 use std::rt::Files;
@@ -74,17 +77,27 @@ const KINDS: [&str; 4] = ["unmaintained", "unsound", "notice", "warnings"];
 
 /// The parser of this command: its options.
 pub fn command<'a>(alloc: Global) -> Result<Command<'a>, AllocError> {
+    let command = with_inputs(alloc)?;
+    let command = with_settings(alloc, command)?;
+    with_forms(alloc, command.arg(since_option(alloc))?)
+}
+
+/// The parser with the options for the lockfile and for the advisories.
+fn with_inputs<'a>(alloc: Global) -> Result<Command<'a>, AllocError> {
     Command::new(alloc, "audit")
         .about("Prints the advisories that concern packages of a lockfile")
         .after_help(AUDIT_HELP)
         .arg(words::file(alloc))?
         .arg(any_size(alloc)?)?
-        .arg(database_option(alloc))?
+        .arg(database_option(alloc))
+}
+
+/// The same with the options for settings.
+fn with_settings<'a>(alloc: Global, command: Command<'a>) -> Result<Command<'a>, AllocError> {
+    command
         .arg(texts::option(alloc, "ignore", "ID").help(IGNORE_HELP))?
         .arg(kinds_option(alloc))?
-        .arg(texts::option(alloc, "registry", "URL").help(REGISTRY_HELP))?
-        .arg(since_option(alloc))?
-        .arg(json(alloc)?)
+        .arg(texts::option(alloc, "registry", "URL").help(REGISTRY_HELP))
 }
 
 /// The option for the folder of the advisories.
@@ -110,12 +123,12 @@ fn since_option<'a>(alloc: Global) -> Arg<'a> {
 }
 
 /// Prints which advisories concern packages of the lockfile, a line for each, and what was
-/// compared, or, if the arguments ask for it, all as one line of JSON. The status is 1 if one of
-/// them is a vulnerability or of a kind that is denied, and no older lockfile that the arguments
+/// compared, or, if the arguments ask for it, all as one line of JSON, or as a report. The status is 1
+/// if one of them is a vulnerability or of a kind that is denied, and no older lockfile that the arguments
 /// name has it too, and otherwise 0. Fails if a URL is none of a registry, if a lockfile, a folder or
 /// an advisory is not read, or if `out` fails; a prefix of the text was then written in the last
 /// case, and nothing in the others.
-pub fn run<R: Files + Input + AllocGlobal, W: Write>(
+pub fn run<R: Files + Input + Env + AllocGlobal, W: Write>(
     rt: &R,
     options: &ArgMatches<'_>,
     out: &mut W,
@@ -126,9 +139,11 @@ pub fn run<R: Files + Input + AllocGlobal, W: Write>(
 {
     let settings = settings_of(rt.alloc(), options)?;
     check_inputs(options)?;
-    let lockfile = named_lockfile(rt, options, "file")?;
-    let file = file(options, "file", &lockfile);
-    print_audit(rt, options, &settings, &file, &lockfile, out)
+    let read = lockfile_with_text(rt, options, "file")?;
+    let path = report_path(rt, options, words::given_path(options, "file"))?;
+    let file = file(options, "file", &read.lockfile);
+    let subject = Subject::of(&file, &path, &read);
+    print_audit(rt, options, &settings, subject, out)
 }
 
 /// Refuses standard input for both lockfiles.
@@ -144,18 +159,17 @@ fn print_audit<R: Files + Input + AllocGlobal, W: Write>(
     rt: &R,
     options: &ArgMatches<'_>,
     settings: &Settings,
-    file: &File<'_>,
-    lockfile: &Lockfile,
+    subject: Subject<'_>,
     out: &mut W,
 ) -> Result<ExitCode, Fault>
     ensures { IfOk result (λ status. PrintsAuditSince (found_of options.now)
-        (settings_of settings.now) file.now lockfile.now.packages
+        (settings_of settings.now) (subject_of subject.entry)
         (W.contents out.old) (W.contents out.new)
         (status ≡ ExitCode.FAILURE) (status ≡ ExitCode.SUCCESS)) }
 {
     let older = older_lockfile(rt, options)?;
-    let audited = audited_since(lockfile, &older);
-    print_audited(rt, options, settings, file, &audited, out)
+    let audited = audited_since(subject.packages, &older);
+    print_audited(rt, options, settings, subject, &audited, out)
 }
 
 /// The older lockfile, if the arguments name one. Fails if it is not read.
@@ -172,14 +186,14 @@ fn older_lockfile<R: Files + Input + AllocGlobal>(
     }
 }
 
-/// What is audited: the packages of a lockfile, since an older one if there is one.
-fn audited_since<'p>(lockfile: &'p Lockfile, older: &'p Option<Lockfile>) -> Audited<'p>
-    ensures packages { result.packages.now ≡ lockfile.now.packages }
+/// What is audited: these packages, since an older lockfile if there is one.
+fn audited_since<'p>(packages: &'p [Package], older: &'p Option<Lockfile>) -> Audited<'p>
+    ensures packages { result.packages.now ≡ packages.now }
     ensures older { option_copied result.older ≡ packages_before older.now }
 {
     let before = packages_before(older);
     Audited {
-        packages: lockfile.packages.as_slice(),
+        packages,
         older: before,
     }
 }
@@ -199,18 +213,26 @@ fn print_audited<R: Files + AllocGlobal, W: Write>(
     rt: &R,
     options: &ArgMatches<'_>,
     settings: &Settings,
-    file: &File<'_>,
+    subject: Subject<'_>,
     audited: &Audited<'_>,
     out: &mut W,
 ) -> Result<ExitCode, Fault>
     ensures { IfOk result (λ status. PrintsAuditOf (found_of options.now)
-        (settings_of settings.now) file.now (audited_of audited.now)
+        (settings_of settings.now) (subject_of subject.entry) (audited_of audited.now)
         (W.contents out.old) (W.contents out.new)
         (status ≡ ExitCode.FAILURE) (status ≡ ExitCode.SUCCESS)) }
 {
     let folder = options.get_str("db").unwrap_or("");
     let database = database_in(rt, folder, audited.packages)?;
-    print_report(rt.alloc(), options, settings, file, audited, &database, out)
+    print_report(
+        rt.alloc(),
+        options,
+        settings,
+        subject,
+        audited,
+        &database,
+        out,
+    )
 }
 
 /// The database in a folder, with the advisories about packages with the name of one of these.
@@ -244,18 +266,18 @@ fn print_report<W: Write>(
     alloc: Global,
     options: &ArgMatches<'_>,
     settings: &Settings,
-    file: &File<'_>,
+    subject: Subject<'_>,
     audited: &Audited<'_>,
     database: &Database,
     out: &mut W,
 ) -> Result<ExitCode, Fault>
     ensures { IfOk result (λ status. PrintsAuditReport (found_of options.now)
-        (settings_of settings.now) file.now (audited_of audited.now)
+        (settings_of settings.now) (subject_of subject.entry) (audited_of audited.now)
         database.now.advisories.items database.now.size (W.contents out.old) (W.contents out.new)
         (status ≡ ExitCode.FAILURE) (status ≡ ExitCode.SUCCESS)) }
 {
     let report = Report::of(alloc, audited, database, settings)?;
-    print_answer(alloc, options, file, &report, out)?;
+    print_findings(alloc, options, subject, &report, out)?;
     Ok(status_of(!is_denied(&report)))
 }
 

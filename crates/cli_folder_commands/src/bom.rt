@@ -58,19 +58,37 @@ const TIME_HELP: &str = "Adds the time: of SOURCE_DATE_EPOCH, or else of the clo
 
 /// The parser of this command: its options.
 pub fn command<'a>(alloc: Global) -> Result<Command<'a>, AllocError> {
+    let command = with_files(alloc)?;
+    let command = with_texts(alloc, command)?;
+    let command = with_marks(alloc, command)?;
+    command.arg(bill_licenses::option(alloc))?.arg(long_flag(alloc, "compact")?.help(
+        "Writes one line, without spaces",
+    ))
+}
+
+/// The parser with the options for the lockfile and for the file that is written.
+fn with_files<'a>(alloc: Global) -> Result<Command<'a>, AllocError> {
     Command::new(alloc, "bom")
         .about("Writes a bill of materials, as CycloneDX 1.6 has it in JSON")
         .after_help(BOM_HELP)
         .arg(file(alloc))?
         .arg(any_size(alloc)?)?
-        .arg(output(alloc))?
+        .arg(output(alloc))
+}
+
+/// The same with the options for what the lockfile does not say.
+fn with_texts<'a>(alloc: Global, command: Command<'a>) -> Result<Command<'a>, AllocError> {
+    command
         .arg(root(alloc).help(ROOT_HELP))?
         .arg(texts::option(alloc, "author", "NAME").help(AUTHOR_HELP))?
-        .arg(texts::option(alloc, "property", "NAME=VALUE").help(PROPERTY_HELP))?
+        .arg(texts::option(alloc, "property", "NAME=VALUE").help(PROPERTY_HELP))
+}
+
+/// The same with the flags for the time and the serial number.
+fn with_marks<'a>(alloc: Global, command: Command<'a>) -> Result<Command<'a>, AllocError> {
+    command
         .arg(long_flag(alloc, "timestamp")?.help(TIME_HELP))?
-        .arg(long_flag(alloc, "serial")?.help("Adds a serial number, equal for equal bills"))?
-        .arg(bill_licenses::option(alloc))?
-        .arg(long_flag(alloc, "compact")?.help("Writes one line, without spaces"))
+        .arg(long_flag(alloc, "serial")?.help("Adds a serial number, equal for equal bills"))
 }
 
 /// The option for the package that the bill is about.

@@ -6,22 +6,24 @@ ghost use Rattle.cargo_lock_licenses.specs.Policy as spec;
 ghost use Rattle.cargo_lock_licenses.specs.Subjects.{license_subject_of};
 ghost use Rattle.cli_folder_commands.specs.Licenses.{AreLicensed, PrintsLicenseReport, PrintsLicenses};
 ghost use Rattle.cli_folder_commands.specs.Licenses.{PrintsLicensesOf};
+ghost use Rattle.cli_input.specs.Told.{subject_of};
 
 use crate::folders::manifests;
 use crate::policy::policy_of;
 use crate::texts;
+use crate::texts::with_forms;
 use crate::verify::status_of;
-use cargo_lock::Lockfile;
 use cargo_lock::package::Package;
-use cargo_lock_display::File;
-use cargo_lock_licenses::{Policy, Report, Subject};
+use cargo_lock_licenses::{Policy, Report};
 use clap::{ArgMatches, Command};
 use cli_folders::Manifests;
-use cli_input::answer::print_answer;
-use cli_input::load::{file, named_lockfile};
-use cli_support::words::{any_size, json};
+use cli_input::findings::print_findings;
+use cli_input::load::{file, lockfile_with_text};
+use cli_input::subject::{Subject, report_path};
+use cli_support::words::any_size;
 use cli_support::{Fault, words};
 use std::alloc::{AllocError, Global};
+use std::env::Env;
 use std::io::{Input, Write};
 use std::process::ExitCode;
 use std::rt::Files;
@@ -64,23 +66,34 @@ const EXEMPT_HELP: &str = "Allows this term for this package alone";
 
 /// The parser of this command: its options.
 pub fn command<'a>(alloc: Global) -> Result<Command<'a>, AllocError> {
+    let command = with_inputs(alloc)?;
+    let command = with_policy(alloc, command)?;
+    with_forms(alloc, command)
+}
+
+/// The parser with the options for the lockfile and for the manifests.
+fn with_inputs<'a>(alloc: Global) -> Result<Command<'a>, AllocError> {
     Command::new(alloc, "licenses")
         .about("Prints the licences of packages, and which are not allowed")
         .after_help(LICENSES_HELP)
         .arg(words::file(alloc))?
         .arg(any_size(alloc)?)?
-        .arg(manifests(alloc, MANIFESTS_HELP).required(true))?
+        .arg(manifests(alloc, MANIFESTS_HELP).required(true))
+}
+
+/// The same with the options for the policy.
+fn with_policy<'a>(alloc: Global, command: Command<'a>) -> Result<Command<'a>, AllocError> {
+    command
         .arg(texts::option(alloc, "allow", "TERM").help(ALLOW_HELP))?
         .arg(texts::option(alloc, "license", "NAME@VERSION=EXPRESSION").help(LICENSE_HELP))?
-        .arg(texts::option(alloc, "exempt", "NAME[@VERSION]=TERM").help(EXEMPT_HELP))?
-        .arg(json(alloc)?)
+        .arg(texts::option(alloc, "exempt", "NAME[@VERSION]=TERM").help(EXEMPT_HELP))
 }
 
 /// Prints what is found of the licences of the packages of the lockfile, a line for each, or, if
-/// the arguments ask for it, all as one line of JSON. The status is 1 if one is not allowed or not
+/// the arguments ask for it, all as one line of JSON, or as a report. The status is 1 if one is not allowed or not
 /// known, and otherwise 0. Fails if words of the arguments, the lockfile, a folder or a manifest are
 /// not read, or if `out` fails; a prefix of the text was then written in the last case, and nothing in the others.
-pub fn run<R: Files + Input + AllocGlobal, W: Write>(
+pub fn run<R: Files + Input + Env + AllocGlobal, W: Write>(
     rt: &R,
     options: &ArgMatches<'_>,
     out: &mut W,
@@ -90,9 +103,11 @@ pub fn run<R: Files + Input + AllocGlobal, W: Write>(
         (status ≡ ExitCode.FAILURE) (status ≡ ExitCode.SUCCESS)) }
 {
     let policy = policy_of(rt.alloc(), options)?;
-    let lockfile = named_lockfile(rt, options, "file")?;
-    let file = file(options, "file", &lockfile);
-    print_licenses(rt, options, &policy, &file, &lockfile, out)
+    let read = lockfile_with_text(rt, options, "file")?;
+    let path = report_path(rt, options, words::given_path(options, "file"))?;
+    let file = file(options, "file", &read.lockfile);
+    let subject = Subject::of(&file, &path, &read);
+    print_licenses(rt, options, &policy, subject, out)
 }
 
 /// Prints what is found of the licences of these packages by a policy. Returns the status.
@@ -100,16 +115,16 @@ fn print_licenses<R: Files + AllocGlobal, W: Write>(
     rt: &R,
     options: &ArgMatches<'_>,
     policy: &Policy,
-    file: &File<'_>,
-    lockfile: &Lockfile,
+    subject: Subject<'_>,
     out: &mut W,
 ) -> Result<ExitCode, Fault>
     ensures { IfOk result (λ status. PrintsLicensesOf (found_of options.now)
-        (spec.policy_of policy.now) file.now lockfile.now.packages (W.contents out.old) (W.contents out.new)
+        (spec.policy_of policy.now) (subject_of subject.entry)
+        (W.contents out.old) (W.contents out.new)
         (status ≡ ExitCode.FAILURE) (status ≡ ExitCode.SUCCESS)) }
 {
-    let subjects = subjects_of(rt, options, &lockfile.packages)?;
-    print_report(rt.alloc(), options, policy, file, &subjects, out)
+    let subjects = subjects_of(rt, options, subject.packages)?;
+    print_report(rt.alloc(), options, policy, subject, &subjects, out)
 }
 
 /// The packages, each with what its manifests say in the folder that the arguments name.
@@ -117,7 +132,7 @@ fn subjects_of<'a, R: Files + AllocGlobal>(
     rt: &R,
     options: &ArgMatches<'_>,
     packages: &'a [Package],
-) -> Result<Vec<Subject<'a>>, Fault>
+) -> Result<Vec<cargo_lock_licenses::Subject<'a>>, Fault>
     ensures { IfOk result
         (λ subjects. AreLicensed packages.now (map license_subject_of subjects.items)) }
 {
@@ -130,7 +145,7 @@ pub(crate) fn subjects_in<'a, R: Files + AllocGlobal>(
     rt: &R,
     folder: &str,
     packages: &'a [Package],
-) -> Result<Vec<Subject<'a>>, Fault>
+) -> Result<Vec<cargo_lock_licenses::Subject<'a>>, Fault>
     ensures { IfOk result
         (λ subjects. AreLicensed packages.now (map license_subject_of subjects.items)) }
 {
@@ -144,14 +159,14 @@ fn licensed<'a>(
     alloc: Global,
     folder: &Manifests,
     packages: &'a [Package],
-) -> Result<Vec<Subject<'a>>, AllocError>
+) -> Result<Vec<cargo_lock_licenses::Subject<'a>>, AllocError>
     ensures { IfOk result
         (λ subjects. AreLicensed packages.now (map license_subject_of subjects.items)) }
 {
     let mut subjects = Vec::with_capacity(alloc, packages.len())?;
     for package in packages {
         let manifests = folder.of_package(alloc, package)?;
-        subjects.push(Subject { package, manifests })?;
+        subjects.push(cargo_lock_licenses::Subject { package, manifests })?;
     }
     Ok(subjects)
 }
@@ -161,16 +176,16 @@ fn print_report<W: Write>(
     alloc: Global,
     options: &ArgMatches<'_>,
     policy: &Policy,
-    file: &File<'_>,
-    subjects: &[Subject<'_>],
+    subject: Subject<'_>,
+    subjects: &[cargo_lock_licenses::Subject<'_>],
     out: &mut W,
 ) -> Result<ExitCode, Fault>
     ensures { IfOk result (λ status. PrintsLicenseReport (found_of options.now)
-        (spec.policy_of policy.now) file.now (map license_subject_of subjects.now)
+        (spec.policy_of policy.now) (subject_of subject.entry) (map license_subject_of subjects.now)
         (W.contents out.old) (W.contents out.new)
         (status ≡ ExitCode.FAILURE) (status ≡ ExitCode.SUCCESS)) }
 {
     let report = Report::of(alloc, subjects, policy)?;
-    print_answer(alloc, options, file, &report, out)?;
+    print_findings(alloc, options, subject, &report, out)?;
     Ok(status_of(!report.has_finding()))
 }

@@ -1,12 +1,12 @@
-//! The texts that are given for an option.
+//! The texts that are given for an option, and the options for how findings are printed.
 ghost use Rattle.std.specs.Prelude.{◌≡◌, IfOk, map, string_bytes};
 ghost use Rattle.clap.specs.Matches.{found_of};
 ghost use Rattle.cli_folder_commands.specs.Texts.{given_texts};
 
 use cargo_lock_parts::Error;
-use clap::{Arg, ArgAction, ArgMatches};
-use cli_support::Fault;
+use clap::{Arg, ArgAction, ArgMatches, Command};
 use cli_support::terminal::in_line;
+use cli_support::{Fault, words};
 use std::alloc::{AllocError, Global};
 
 /// An option for texts, one each time that it is given.
@@ -15,6 +15,17 @@ pub(crate) fn option<'a>(alloc: Global, name: &'a str, shown: &'a str) -> Arg<'a
         .long(name)
         .value_name(shown)
         .action(ArgAction::Append)
+}
+
+/// A parser with the options for how findings are printed.
+pub(crate) fn with_forms<'a>(
+    alloc: Global,
+    command: Command<'a>,
+) -> Result<Command<'a>, AllocError> {
+    command
+        .arg(words::json(alloc)?)?
+        .arg(words::format(alloc)?)?
+        .arg(words::name(alloc)?)
 }
 
 /// The texts that are given for this option, as they stand among the arguments.

@@ -8,20 +8,22 @@ ghost use Rattle.cargo_lock_verify.specs.Vendored.{vendored_of};
 ghost use Rattle.cli_folder_commands.specs.Verify as spec;
 ghost use Rattle.cli_folder_commands.specs.Verify.{AreSubjectsOf, AreVendoredOf, PrintsReport};
 ghost use Rattle.cli_folder_commands.specs.Verify.{PrintsVendorReport, PrintsVerified, PrintsVerifiedOf};
+ghost use Rattle.cli_input.specs.Told.{subject_of};
 
 use crate::folders::{cache, check_folder, vendor};
 use crate::texts;
-use cargo_lock::Lockfile;
+use crate::texts::with_forms;
 use cargo_lock::package::Package;
-use cargo_lock_display::File;
-use cargo_lock_verify::{Cache, Entry, Others, Report, Subject, VendorReport, Vendored};
+use cargo_lock_verify::{Cache, Entry, Others, Report, VendorReport, Vendored};
 use clap::{Arg, ArgMatches, Command};
 use cli_folders::{Entries, Vendor};
-use cli_input::answer::print_answer;
-use cli_input::load::{compared_lockfile, file};
-use cli_support::words::{any_size, json, long_flag};
+use cli_input::findings::print_findings;
+use cli_input::load::{compared_with_text, file};
+use cli_input::subject::{Subject, report_path};
+use cli_support::words::{any_size, long_flag};
 use cli_support::{Fault, words};
 use std::alloc::{AllocError, Global};
+use std::env::Env;
 use std::io::{Input, Write};
 use std::process::ExitCode;
 use std::rt::Files;
@@ -72,17 +74,28 @@ const OTHERS_HELP: &str = "Passes over folders of packages that the lockfile doe
 
 /// The parser of this command: its options.
 pub fn command<'a>(alloc: Global) -> Result<Command<'a>, AllocError> {
+    let command = with_inputs(alloc)?;
+    let command = with_judgement(alloc, command)?;
+    with_forms(alloc, command)
+}
+
+/// The parser with the options for the lockfile and for the folders.
+fn with_inputs<'a>(alloc: Global) -> Result<Command<'a>, AllocError> {
     Command::new(alloc, "verify")
         .about("Compares archives, or vendored folders, with the checksums of a lockfile")
         .after_help(VERIFY_HELP)
         .arg(words::file(alloc))?
         .arg(any_size(alloc)?)?
         .arg(cache(alloc, CACHE_HELP))?
-        .arg(vendor(alloc)?)?
+        .arg(vendor(alloc)?)
+}
+
+/// The same with the options for what counts.
+fn with_judgement<'a>(alloc: Global, command: Command<'a>) -> Result<Command<'a>, AllocError> {
+    command
         .arg(all(alloc)?)?
         .arg(mirror(alloc)?)?
-        .arg(others(alloc)?)?
-        .arg(json(alloc)?)
+        .arg(others(alloc)?)
 }
 
 /// The option for the hosts of mirrors.
@@ -108,11 +121,11 @@ fn all<'a>(alloc: Global) -> Result<Arg<'a>, AllocError> {
 
 /// Prints which packages of the lockfile have no archive with their checksum, or no folder that is
 /// as its list says, which other entries of the folder Cargo may read, and how many packages are in
-/// each class, or, if the arguments ask for it, all as one line of JSON. The status is 1 if something
-/// that counts is found, and otherwise 0. Fails if the arguments name no folder, if the lockfile, a
+/// each class, or, if the arguments ask for it, all as one line of JSON, or as a report. The status is
+/// 1 if something that counts is found, and otherwise 0. Fails if the arguments name no folder, if the lockfile, a
 /// folder or a file is not read, or if `out` fails; a prefix of the text was then written in the last
 /// case, and nothing in the others.
-pub fn run<R: Files + Input + AllocGlobal, W: Write>(
+pub fn run<R: Files + Input + Env + AllocGlobal, W: Write>(
     rt: &R,
     options: &ArgMatches<'_>,
     out: &mut W,
@@ -122,32 +135,40 @@ pub fn run<R: Files + Input + AllocGlobal, W: Write>(
         (status ≡ ExitCode.FAILURE) (status ≡ ExitCode.SUCCESS)) }
 {
     check_folder(options)?;
-    let lockfile = compared_lockfile(rt, options, "file")?;
-    let file = file(options, "file", &lockfile);
-    print_verified(rt, options, &file, &lockfile, out)
+    let read = compared_with_text(rt, options, "file")?;
+    let path = report_path(rt, options, words::given_path(options, "file"))?;
+    let file = file(options, "file", &read.lockfile);
+    let subject = Subject::of(&file, &path, &read);
+    print_verified(rt, options, subject, out)
 }
 
-/// Prints what is found of these packages. Returns the status.
+/// Prints what is found of the packages of a lockfile. Returns the status.
 fn print_verified<R: Files + AllocGlobal, W: Write>(
     rt: &R,
     options: &ArgMatches<'_>,
-    file: &File<'_>,
-    lockfile: &Lockfile,
+    subject: Subject<'_>,
     out: &mut W,
 ) -> Result<ExitCode, Fault>
-    ensures { IfOk result (λ status. PrintsVerifiedOf (found_of options.now) file.now
-        lockfile.now.packages (W.contents out.old) (W.contents out.new)
+    ensures { IfOk result (λ status. PrintsVerifiedOf (found_of options.now)
+        (subject_of subject.entry) (W.contents out.old) (W.contents out.new)
         (status ≡ ExitCode.FAILURE) (status ≡ ExitCode.SUCCESS)) }
 {
     match options.get_str("vendor") {
         Some(folder) => {
             let vendor = Vendor::of(rt, folder)?;
-            let vendored = vendored_with(rt, &vendor, &lockfile.packages)?;
-            print_vendor_report(rt.alloc(), options, file, &vendored, vendor.entries(), out)
+            let vendored = vendored_with(rt, &vendor, subject.packages)?;
+            print_vendor_report(
+                rt.alloc(),
+                options,
+                subject,
+                &vendored,
+                vendor.entries(),
+                out,
+            )
         }
         None => {
-            let subjects = subjects_of(rt, options, &lockfile.packages)?;
-            print_archive_report(rt.alloc(), options, file, &subjects, out)
+            let subjects = subjects_of(rt, options, subject.packages)?;
+            print_archive_report(rt.alloc(), options, subject, &subjects, out)
         }
     }
 }
@@ -174,19 +195,20 @@ fn vendored_with<'a, R: Files + AllocGlobal>(
 fn print_vendor_report<W: Write>(
     alloc: Global,
     options: &ArgMatches<'_>,
-    file: &File<'_>,
+    subject: Subject<'_>,
     vendored: &[Vendored<'_>],
     entries: &[Entry],
     out: &mut W,
 ) -> Result<ExitCode, Fault>
-    ensures { IfOk result (λ status. PrintsVendorReport (found_of options.now) file.now
+    ensures { IfOk result (λ status. PrintsVendorReport (found_of options.now)
+        (subject_of subject.entry)
         (map vendored_of vendored.now) (map vendored_entry entries.now)
         (W.contents out.old) (W.contents out.new)
         (status ≡ ExitCode.FAILURE) (status ≡ ExitCode.SUCCESS)) }
 {
     let others = others_of(options.get_flag("others"));
     let report = VendorReport::of(alloc, vendored, entries, others)?;
-    print_answer(alloc, options, file, &report, out)?;
+    print_findings(alloc, options, subject, &report, out)?;
     Ok(status_of(report.findings.is_empty()))
 }
 
@@ -206,7 +228,7 @@ fn subjects_of<'a, R: Files + AllocGlobal>(
     rt: &R,
     options: &ArgMatches<'_>,
     packages: &'a [Package],
-) -> Result<Vec<Subject<'a>>, Fault>
+) -> Result<Vec<cargo_lock_verify::Subject<'a>>, Fault>
     ensures { IfOk result
         (λ subjects. AreSubjectsOf packages.now (map archive_subject_of subjects.items)) }
 {
@@ -219,14 +241,14 @@ fn subjects_with<'a, R: Files + AllocGlobal>(
     rt: &R,
     entries: &Entries,
     packages: &'a [Package],
-) -> Result<Vec<Subject<'a>>, Fault>
+) -> Result<Vec<cargo_lock_verify::Subject<'a>>, Fault>
     ensures { IfOk result
         (λ subjects. AreSubjectsOf packages.now (map archive_subject_of subjects.items)) }
 {
     let mut subjects = Vec::with_capacity(rt.alloc(), packages.len())?;
     for package in packages {
         let archives = entries.archives_of(rt, package)?;
-        subjects.push(Subject { package, archives })?;
+        subjects.push(cargo_lock_verify::Subject { package, archives })?;
     }
     Ok(subjects)
 }
@@ -235,18 +257,18 @@ fn subjects_with<'a, R: Files + AllocGlobal>(
 fn print_archive_report<W: Write>(
     alloc: Global,
     options: &ArgMatches<'_>,
-    file: &File<'_>,
-    subjects: &[Subject<'_>],
+    subject: Subject<'_>,
+    subjects: &[cargo_lock_verify::Subject<'_>],
     out: &mut W,
 ) -> Result<ExitCode, Fault>
-    ensures { IfOk result (λ status. PrintsReport (found_of options.now) file.now
+    ensures { IfOk result (λ status. PrintsReport (found_of options.now) (subject_of subject.entry)
         (map archive_subject_of subjects.now) (W.contents out.old) (W.contents out.new)
         (status ≡ ExitCode.FAILURE) (status ≡ ExitCode.SUCCESS)) }
 {
     let all = options.get_flag("all");
     let mirrors = texts::among(options, "mirror");
     let report = Report::of(alloc, &Cache { subjects, mirrors }, all)?;
-    print_answer(alloc, options, file, &report, out)?;
+    print_findings(alloc, options, subject, &report, out)?;
     Ok(status_of(report.counts.is_clean(all)))
 }
 

@@ -2,7 +2,7 @@
 
 ghost use Rattle.std.specs.Prelude.{◌<◌, IfOk};
 
-use crate::files::{Entry, all_names_in, fault_of, path_of, target_at, text_at};
+use crate::files::{Entry, fault_of, names_in, path_of, target_at, text_at};
 use cargo_lock_audit::{Advisory, AdvisoryFile, DatabaseFault};
 use cargo_lock_parts::Error;
 use cargo_lock_parts::package::Package;
@@ -54,7 +54,7 @@ fn files_in<R: Files + AllocGlobal>(
         wanted: Vec::new(rt.alloc()),
         count: 0,
     };
-    for name in &all_names_in(rt, crates)? {
+    for name in &names_in(rt, crates)? {
         if !is_hidden(name) {
             put_folder(rt, &mut found, &wanted, crates, name)?;
         }
@@ -104,7 +104,7 @@ fn put_folder<R: Files + AllocGlobal>(
     name: &str,
 ) -> Result<(), Fault> {
     let folder = path_of(rt.alloc(), crates, name)?;
-    let names = all_names_in(rt, &folder)?;
+    let names = names_in(rt, &folder)?;
     let count = names.iter().filter(|name| is_advisory(name)).count();
     found.count = found.count.saturating_add(count);
     if wanted.binary_search(&name).is_ok() {
@@ -137,13 +137,29 @@ fn put_file<R: Files + AllocGlobal>(
     name: &str,
     path: String,
 ) -> Result<(), Fault> {
-    if !is_advisory(name) || target_at(rt, &path)? != Some(Entry::File) {
-        return Err(fault_of(rt.alloc(), &path, "it is no file RUSTSEC-*.md"));
+    let text = advisory_text(rt, name, &path)?;
+    put_text(rt.alloc(), files, package, path, &text)
+}
+
+// The text of the file of this name at a path. Fails if it is not to be an advisory, or is no file.
+fn advisory_text<R: Files + AllocGlobal>(rt: &R, name: &str, path: &str) -> Result<String, Fault> {
+    if !is_advisory(name) || target_at(rt, path)? != Some(Entry::File) {
+        return Err(fault_of(rt.alloc(), path, "it is no file RUSTSEC-*.md"));
     }
-    let text = text_at(rt, &path)?;
-    match Advisory::parse(rt.alloc(), &text) {
-        Ok(advisory) => put_advisory(rt.alloc(), files, package, path, advisory),
-        Err(error) => Err(database_fault(rt.alloc(), &DatabaseFault::Unread(path, error))),
+    text_at(rt, path)
+}
+
+// Adds the advisory that a text at a path has. Fails if it has none.
+fn put_text(
+    alloc: Global,
+    files: &mut Vec<AdvisoryFile>,
+    package: &str,
+    path: String,
+    text: &str,
+) -> Result<(), Fault> {
+    match Advisory::parse(alloc, text) {
+        Ok(advisory) => put_advisory(alloc, files, package, path, advisory),
+        Err(error) => Err(database_fault(alloc, &DatabaseFault::Unread(path, error))),
     }
 }
 

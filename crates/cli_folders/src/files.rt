@@ -23,27 +23,14 @@ pub(crate) fn digest_at<R: Files>(rt: &R, path: &str) -> io::Result<Checksum> {
     digest(&mut file)
 }
 
-/// The names in a folder, in order. One that is not UTF-8 is left out. Fails if the folder is not
-/// read.
+/// The names in a folder, in order. Fails if the folder is not read, and if one is not UTF-8: what
+/// it names could be looked at by nobody.
 pub(crate) fn names_in<R: Files + AllocGlobal>(rt: &R, folder: &str) -> Result<Vec<String>, Fault> {
     match bytes_in(rt, folder) {
-        Ok(bytes) => names_of(rt.alloc(), &bytes),
-        Err(error) => Err(fault_at(rt.alloc(), folder, error)),
-    }
-}
-
-/// The names in a folder, in order. Fails if the folder is not read, and if one is not UTF-8.
-pub(crate) fn all_names_in<R: Files + AllocGlobal>(
-    rt: &R,
-    folder: &str,
-) -> Result<Vec<String>, Fault> {
-    match bytes_in(rt, folder) {
-        Ok(bytes) => {
-            if str::from_utf8(&bytes).is_err() {
-                return Err(fault_of(rt.alloc(), folder, "a name in it is not UTF-8"));
-            }
-            names_of(rt.alloc(), &bytes)
-        }
+        Ok(bytes) => match str::from_utf8(&bytes) {
+            Ok(text) => Ok(names_of(rt.alloc(), text)?),
+            Err(_) => Err(fault_of(rt.alloc(), folder, "a name in it is not UTF-8")),
+        },
         Err(error) => Err(fault_at(rt.alloc(), folder, error)),
     }
 }
@@ -68,13 +55,12 @@ fn bytes_in<R: Files + AllocGlobal>(rt: &R, folder: &str) -> io::Result<Vec<u8>>
     Err(io::Error::from(ErrorKind::FileTooLarge))
 }
 
-/// The names of such bytes, in order, but for the folder itself and the one above.
-fn names_of(alloc: Global, bytes: &[u8]) -> Result<Vec<String>, Fault> {
+/// The names in such a text, in order, but for the folder itself and the one above.
+fn names_of(alloc: Global, text: &str) -> Result<Vec<String>, AllocError> {
     let mut names = Vec::new(alloc);
-    for name in bytes.split(|byte| *byte == 0) {
-        match str::from_utf8(name) {
-            Ok("" | "." | "..") | Err(_) => {}
-            Ok(name) => names.push(String::from_str(alloc, name)?)?,
+    for name in text.split('\0') {
+        if !matches!(name, "" | "." | "..") {
+            names.push(String::from_str(alloc, name)?)?;
         }
     }
     names.sort()?;

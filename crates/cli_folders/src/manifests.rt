@@ -8,7 +8,7 @@ ghost use Rattle.cli_folders.specs.Manifests.{manifests_by, manifests_if, manife
 ghost use Rattle.cli_folders.specs.Manifests.{sought_for, sought_of};
 ghost use Rattle.cli_folders.specs.declared.sought.Reach.TheVariants.{All, Near};
 
-use crate::files::{Entry, all_names_in, entry_at, fault_of, host_in, path_of};
+use crate::files::{Entry, entry_at, fault_of, host_in, names_in, path_of};
 use crate::found::{Found, copied};
 use crate::manifest::{MANIFEST, manifest_at, manifest_path};
 use crate::sought::{Reach, Sought};
@@ -160,13 +160,38 @@ impl Manifests {
         packages: &[Package],
     ) -> Result<(), Fault> {
         let wanted = by_folder(rt.alloc(), packages)?;
-        for name in &all_names_in(rt, folder)? {
+        let names = names_in(rt, folder)?;
+        self.put_wanted(rt, folder, host, &wanted, &names)
+    }
+
+    // Adds what has one of these names in such a folder, where the name is that of a wanted package.
+    fn put_wanted<R: Files + AllocGlobal>(
+        &mut self,
+        rt: &R,
+        folder: &str,
+        host: &Option<String>,
+        wanted: &BTreeMap<String, &Package>,
+        names: &[String],
+    ) -> Result<(), Fault> {
+        for name in names {
             if let Some(package) = wanted.get(name.as_str()) {
                 let path = path_of(rt.alloc(), folder, name)?;
-                let found = unpacked_one(rt, &path, package)?;
-                self.found.push(found.at(copied(rt.alloc(), host)?))?;
+                self.put_unpacked_one(rt, &path, host, package)?;
             }
         }
+        Ok(())
+    }
+
+    // Adds what is at the path that has the name of the folder of a package, in a folder of this host.
+    fn put_unpacked_one<R: Files + AllocGlobal>(
+        &mut self,
+        rt: &R,
+        path: &str,
+        host: &Option<String>,
+        package: &Package,
+    ) -> Result<(), Fault> {
+        let found = unpacked_one(rt, path, package)?;
+        self.found.push(found.at(copied(rt.alloc(), host)?))?;
         Ok(())
     }
 }
@@ -298,7 +323,7 @@ fn manifests_in(
 // The paths of the folders in a folder, but for those that begin with a dot. Fails at a link.
 fn folders_in<R: Files + AllocGlobal>(rt: &R, folder: &str) -> Result<Vec<String>, Fault> {
     let mut folders = Vec::new(rt.alloc());
-    for name in &all_names_in(rt, folder)? {
+    for name in &names_in(rt, folder)? {
         if !name.starts_with('.') {
             put_folder(rt, &mut folders, path_of(rt.alloc(), folder, name)?)?;
         }
@@ -364,7 +389,7 @@ fn is_one_index<R: Files + AllocGlobal>(rt: &R, folders: &[String]) -> Result<bo
 
 // Whether a folder in this one has a manifest.
 fn is_index<R: Files + AllocGlobal>(rt: &R, folder: &str) -> Result<bool, Fault> {
-    for name in &all_names_in(rt, folder)? {
+    for name in &names_in(rt, folder)? {
         let path = path_of(rt.alloc(), folder, name)?;
         if entry_at(rt, &path)? == Some(Entry::Folder) && has(rt, &path, MANIFEST)? {
             return Ok(true);

@@ -2,7 +2,7 @@
 
 ghost use Rattle.std.specs.Prelude.{◌≡◌, [], IfOk, None};
 
-use crate::files::{self, all_names_in, digest_at, entry_at, fault_at, fault_of, path_of, text_at};
+use crate::files::{self, digest_at, entry_at, fault_at, fault_of, names_in, path_of, text_at};
 use crate::manifest::{manifest_path, table_at, text_in};
 use cargo_lock_parts::Error;
 use cargo_lock_parts::package::{Checksum, Name, Package};
@@ -35,7 +35,7 @@ impl Vendor {
             entries: Vec::new(rt.alloc()),
             folders: BTreeMap::new(rt.alloc()),
         };
-        for name in &all_names_in(rt, folder)? {
+        for name in &names_in(rt, folder)? {
             let path = path_of(rt.alloc(), folder, name)?;
             let content = content_at(rt, &path, name)?;
             vendor.put(rt.alloc(), Entry { path, content })?;
@@ -201,7 +201,7 @@ fn put_files_in<R: Files + AllocGlobal>(
     inner: &str,
 ) -> Result<(), Fault> {
     let at = joined(rt.alloc(), &folder.path, inner)?;
-    for name in &all_names_in(rt, &at)? {
+    for name in &names_in(rt, &at)? {
         let path = joined(rt.alloc(), inner, name)?;
         put_at(rt, folder, waiting, path)?;
     }
@@ -227,12 +227,23 @@ fn put_at<R: Files + AllocGlobal>(
     path: String,
 ) -> Result<(), Fault> {
     let at = path_of(rt.alloc(), &folder.path, &path)?;
-    match entry_at(rt, &at)? {
+    put_entry(rt, folder, waiting, path, &at)
+}
+
+/// The same, where this is the path of it as the program opens it.
+fn put_entry<R: Files + AllocGlobal>(
+    rt: &R,
+    folder: &mut Folder,
+    waiting: &mut Vec<String>,
+    path: String,
+    at: &str,
+) -> Result<(), Fault> {
+    match entry_at(rt, at)? {
         Some(files::Entry::Folder) => waiting.push(path)?,
         Some(files::Entry::Link) => folder.links.push(path)?,
         Some(files::Entry::File) if path.as_str() == LIST => {}
-        Some(files::Entry::File) => put_file(rt, folder, path, &at)?,
-        _ => return Err(fault_of(rt.alloc(), &at, "it is no file")),
+        Some(files::Entry::File) => put_file(rt, folder, path, at)?,
+        _ => return Err(fault_of(rt.alloc(), at, "it is no file")),
     }
     Ok(())
 }

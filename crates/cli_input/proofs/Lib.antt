@@ -1,2 +1,4 @@
 pub mod Flags
+pub mod Limits
 pub mod Names
+pub mod Telling

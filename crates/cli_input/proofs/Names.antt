@@ -1,14 +1,19 @@
 -- Errors with the name of their file.
 use Rattle.std.proofs.Common.{◌≡◌, ℕ, List, None, String, refl, string_bytes}
 use Rattle.std.specs.declared.alloc.Global.{Global}
+use Rattle.cargo_lock_encoding.specs.Lockfiles.{LockfileData}
+use Rattle.cargo_lock_encoding.specs.Means.{TextMeans}
+use Rattle.cargo_lock_parts.specs.Error.{IsLong, RefusesUrls}
 use Rattle.cargo_lock_parts.specs.declared.error.Error.{Error}
 use Rattle.cargo_lock_parts.specs.declared.error.Error.TheVariants.{Io, Memory, Parse, Resolution, Version}
 use Rattle.cargo_lock_table_flaws.specs.Marks.{conflict_mark_line}
 use Rattle.cli_support.specs.Fault.{in_file, with_file_first}
 use Rattle.cli_support.specs.Input.{IsInputShown}
 use Rattle.cli_support.specs.declared.fault.Fault.{Fault}
-use Rattle.cli_support.specs.declared.fault.Fault.TheVariants.{Library, TooLarge}
-use Rattle.cli_input.specs.Load.{IsOfLockfile, IsOfLockfileUnnamed, IsReadingFault}
+use Rattle.cli_support.specs.declared.fault.Fault.TheVariants.{Library, TooLarge, TooLongVersions}
+use Rattle.clap.specs.declared.parser.matches.Found.{Found}
+use Rattle.cli_input.specs.Limit.{IsAtLimit, IsBeyondFault, IsBeyondLimit}
+use Rattle.cli_input.specs.Load.{IsOfLockfile, IsOfLockfileUnnamed, IsReadingFault, IsTextFault}
 
 -- the error of a lockfile is one of that lockfile with the name of its file
 pub named-of-lockfile : (argument : List ℕ) (name : String Global) (fault : Fault) → IsInputShown argument (string_bytes name) → IsOfLockfileUnnamed argument fault → IsOfLockfile argument (in_file name fault)
@@ -18,6 +23,7 @@ named-of-lockfile argument name (Library (Parse message)) shown h = (shown, h)
 named-of-lockfile argument name (Library (Version fault)) shown h = (shown, h)
 named-of-lockfile argument name (Library (Resolution message)) shown h = (shown, h)
 named-of-lockfile argument name (TooLarge text) shown h = h
+named-of-lockfile argument name (TooLongVersions text) shown h = h
 named-of-lockfile argument name other shown h = absurd h
 
 -- the error of the library with the name of its file first
@@ -28,3 +34,48 @@ named-refusal argument text name (Io kind) shown none = (shown, none, refl)
 named-refusal argument text name (Parse message) shown none = (shown, none, refl)
 named-refusal argument text name (Version fault) shown none = (shown, none, refl)
 named-refusal argument text name (Resolution message) shown none = (shown, none, refl)
+
+-- the error for a text that means no lockfile is one of a lockfile
+pub refused-unnamed : (argument text : List ℕ) (error : Error) → RefusesUrls (IsLong text) error ((l : LockfileData) → ¬ TextMeans text l) → IsOfLockfileUnnamed argument (Library error)
+refused-unnamed argument text (Parse message) h = (text, h)
+refused-unnamed argument text Memory h = tt
+refused-unnamed argument text (Io kind) h = absurd h
+refused-unnamed argument text (Version fault) h = absurd h
+refused-unnamed argument text (Resolution message) h = absurd h
+
+-- ---- the limit
+
+-- the error for a text beyond the limit is one of a lockfile
+pub beyond-unnamed : (argument : List ℕ) (fault : Fault) → IsBeyondFault argument fault → IsOfLockfileUnnamed argument fault
+beyond-unnamed argument (TooLongVersions name) h = h
+beyond-unnamed argument (Library Memory) h = tt
+beyond-unnamed argument (Library (Io kind)) h = absurd h
+beyond-unnamed argument (Library (Parse message)) h = absurd h
+beyond-unnamed argument (Library (Version fault)) h = absurd h
+beyond-unnamed argument (Library (Resolution message)) h = absurd h
+beyond-unnamed argument other h = absurd h
+
+-- and one of a text
+pub beyond-text : (argument text : List ℕ) (fault : Fault) → IsBeyondFault argument fault → IsTextFault argument text fault
+beyond-text argument text (TooLongVersions name) h = h
+beyond-text argument text (Library Memory) h = (Memory, tt)
+beyond-text argument text (Library (Io kind)) h = absurd h
+beyond-text argument text (Library (Parse message)) h = absurd h
+beyond-text argument text (Library (Version fault)) h = absurd h
+beyond-text argument text (Library (Resolution message)) h = absurd h
+beyond-text argument text other h = absurd h
+
+-- it comes for a text that is refused
+pub beyond-limit : (found : Found) (argument text : List ℕ) (fault : Fault) → IsBeyondLimit found text → IsBeyondFault argument fault → IsAtLimit found text fault
+beyond-limit found argument text (TooLongVersions name) refused h = refused
+beyond-limit found argument text other refused h = tt
+
+-- the error for a text that is no lockfile is one of a text
+pub reading-text : (argument text : List ℕ) (error : Error) (fault : Fault) → IsReadingFault argument text error fault → IsTextFault argument text fault
+reading-text argument text error (TooLongVersions name) h = absurd h
+reading-text argument text error other h = (error, h)
+
+-- and none of the limit
+pub reading-limit : (found : Found) (argument text : List ℕ) (error : Error) (fault : Fault) → IsReadingFault argument text error fault → IsAtLimit found text fault
+reading-limit found argument text error (TooLongVersions name) h = absurd h
+reading-limit found argument text error other h = tt

@@ -1,2 +1,4 @@
 pub mod Json
+pub mod Limit
 pub mod Load
+pub mod Told

@@ -3,27 +3,31 @@ use Rattle.std.specs.Prelude.{◌≡◌, ℕ, List, None, Some, string_bytes}
 use Rattle.cargo_lock.specs.CargoChecksums.{with_cargo_checksums_in}
 use Rattle.cargo_lock.specs.Loads.{IsMeant, IsOfFile}
 use Rattle.cargo_lock_encoding.specs.Lockfiles.{LockfileData}
+use Rattle.cargo_lock_encoding.specs.Means.{TextMeans}
 use Rattle.cargo_lock_references.specs.declared.version.ResolveVersion.{ResolveVersion}
 use Rattle.cargo_lock_parts.specs.declared.error.Error.{Error}
 use Rattle.cargo_lock_parts.specs.declared.error.Error.TheVariants.{Memory}
 use Rattle.cargo_lock_table_flaws.specs.Marks.{conflict_mark_line}
 use Rattle.cargo_lock_graph.specs.Edges.{GraphData}
 use Rattle.cargo_lock_graph.specs.Targets.{AreEdgesOf}
+use Rattle.cargo_lock_edges.specs.OwnGraph.{IsOwnGraph}
 use Rattle.cli_support.specs.declared.fault.Fault.{Fault}
 use Rattle.cli_support.specs.declared.fault.Fault.TheVariants.{ConflictMarks, File, FileAfter}
-use Rattle.cli_support.specs.declared.fault.Fault.TheVariants.{Library, TooLarge}
+use Rattle.cli_support.specs.declared.fault.Fault.TheVariants.{Library, TooLarge, TooLongVersions}
 use Rattle.cli_support.specs.Input.{IsInputShown}
 
--- the error for a lockfile of this argument: the file is too long, the system does not read it, it is
--- not a lockfile, or memory ran out
+-- the error for a lockfile of this argument: the file is too long, the system does not read it, it
+-- is not a lockfile or beyond the limit, or memory ran out
 abbrev pub IsOfLockfileUnnamed : List ℕ → Fault → Type 0
 IsOfLockfileUnnamed argument (TooLarge name) = IsInputShown argument (string_bytes name)
+IsOfLockfileUnnamed argument (TooLongVersions name) = IsInputShown argument (string_bytes name)
 IsOfLockfileUnnamed argument (Library error) = IsOfFile error
 IsOfLockfileUnnamed argument other = ⊥
 
 -- the same with the name of the file, unless memory ran out
 abbrev pub IsOfLockfile : List ℕ → Fault → Type 0
 IsOfLockfile argument (TooLarge name) = IsInputShown argument (string_bytes name)
+IsOfLockfile argument (TooLongVersions name) = IsInputShown argument (string_bytes name)
 IsOfLockfile argument (FileAfter name error) = IsInputShown argument (string_bytes name)
     × IsOfFile error
 IsOfLockfile argument (Library Memory) = Unit {0}
@@ -40,15 +44,27 @@ IsReadingFault argument text error (File name said) = IsInputShown argument (str
 IsReadingFault argument text error (Library Memory) = Unit {0}
 IsReadingFault argument text error other = ⊥
 
+-- the error for a text of the file of this argument: it is beyond the limit, or no lockfile
+abbrev pub IsTextFault : List ℕ → List ℕ → Fault → Type 0
+IsTextFault argument text (TooLongVersions name) = IsInputShown argument (string_bytes name)
+IsTextFault argument text fault = (error : Error) × IsReadingFault argument text error fault
+
 -- the lockfile is one that some text means, with the checksums that Cargo reads
 abbrev pub IsMeantWithCargoChecksums : LockfileData → Type 0
 IsMeantWithCargoChecksums x = (l : LockfileData) × IsMeant l × (x ≡ with_cargo_checksums_in l)
 
--- the graph is that of the packages of a lockfile
+-- the text means a lockfile, and this is that one with the checksums that Cargo reads
+abbrev pub MeansWithCargoChecksums : List ℕ → LockfileData → Type 0
+MeansWithCargoChecksums text x = (l : LockfileData) × TextMeans text l
+    × (x ≡ with_cargo_checksums_in l)
+
+-- the graph is that of the tree of a lockfile
 pub record IsGraphOf (l : LockfileData) (graph : GraphData) : Type 0 where
   pub packages : graph.packages ≡ l.packages
   pub edges : AreEdgesOf l.packages graph.edges
 
--- the format and the graph are those of a lockfile that some text means
-abbrev pub IsGraphRead : ResolveVersion → GraphData → Type 0
-IsGraphRead format graph = (l : LockfileData) × IsMeant l × (l.version ≡ format) × IsGraphOf l graph
+-- the format is that of a lockfile that some text means, and the graph that of its packages, as their
+-- dependencies lead
+abbrev pub IsOwnGraphRead : ResolveVersion → GraphData → Type 0
+IsOwnGraphRead format graph = (l : LockfileData) × IsMeant l × (l.version ≡ format)
+    × IsOwnGraph l.packages graph

@@ -3,12 +3,8 @@ ghost use Rattle.std.specs.Prelude.{IfSome, OnOk, map};
 ghost use Rattle.clap.specs.Matches.{found_of};
 ghost use Rattle.cli_input.specs.Json.{PrintsAnswer};
 
-use cargo_lock_audit::advisories_json;
 use cargo_lock_display::File;
-use cargo_lock_licenses::licenses_json;
 use cargo_lock_query::{Answers, Listing, answers_json, groups_json};
-use cargo_lock_table_flaws::{TableReport, table_findings_json};
-use cargo_lock_verify::{VendorReport, archives_json, folders_json};
 use clap::ArgMatches;
 use cli_support::Fault;
 use cli_support::output::put;
@@ -74,63 +70,5 @@ impl Answer for Listing<'_> {
 
     fn document(&self, alloc: Global, file: &File<'_>) -> Result<String, AllocError> {
         groups_json(alloc, file, &self.groups)
-    }
-}
-
-impl Answer for cargo_lock_verify::Report<'_, '_> {
-    ghost use Rattle.cargo_lock_verify.specs.ArchivesDocument.{archives_json};
-    ghost use Rattle.cargo_lock_verify.specs.Archives.{archive_finding_of};
-
-    ghost json = { λ file report. archives_json file report.counts report.others
-        (map archive_finding_of report.findings.items) };
-
-    fn document(&self, alloc: Global, file: &File<'_>) -> Result<String, AllocError> {
-        archives_json(alloc, file, self)
-    }
-}
-
-impl Answer for VendorReport<'_, '_> {
-    ghost use Rattle.cargo_lock_verify.specs.FoldersDocument.{folders_json};
-    ghost use Rattle.cargo_lock_verify.specs.Vendored.{folder_finding_of};
-
-    ghost json = { λ file report.
-        folders_json file report.counts (map folder_finding_of report.findings.items) };
-
-    fn document(&self, alloc: Global, file: &File<'_>) -> Result<String, AllocError> {
-        folders_json(alloc, file, self)
-    }
-}
-
-impl Answer for cargo_lock_licenses::Report<'_, '_> {
-    ghost use Rattle.cargo_lock_licenses.specs.Document.{licenses_json};
-    ghost use Rattle.cargo_lock_licenses.specs.Judged.{judged_of};
-    ghost use Rattle.cargo_lock_licenses.specs.Report.{unmet_of};
-
-    ghost json = { λ file report. licenses_json file (map judged_of report.judged.items)
-        (map unmet_of report.unmet.items) };
-
-    fn document(&self, alloc: Global, file: &File<'_>) -> Result<String, AllocError> {
-        licenses_json(alloc, file, self)
-    }
-}
-
-impl Answer for cargo_lock_audit::Report<'_, '_, '_> {
-    ghost use Rattle.cargo_lock_audit.specs.Document.{advisories_json};
-    ghost use Rattle.cargo_lock_audit.specs.Report.{report_data_of};
-
-    ghost json = { λ file report. advisories_json file (report_data_of report) };
-
-    fn document(&self, alloc: Global, file: &File<'_>) -> Result<String, AllocError> {
-        advisories_json(alloc, file, self)
-    }
-}
-
-impl Answer for TableReport<'_> {
-    ghost use Rattle.cargo_lock_table_flaws.specs.Document.{table_findings_json};
-
-    ghost json = { λ file report. table_findings_json file report.findings };
-
-    fn document(&self, alloc: Global, file: &File<'_>) -> Result<String, AllocError> {
-        table_findings_json(alloc, file, self)
     }
 }

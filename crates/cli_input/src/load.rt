@@ -1,24 +1,36 @@
 //! The lockfiles that the arguments name.
-ghost use Rattle.std.specs.Prelude.{◌≡◌, IfErr, IfOk, List, None, Some, ℕ, option_map};
+ghost use Rattle.std.specs.Prelude.{◌≡◌, IfErr, IfOk, List, MatchOption, None, Some, ℕ, option_map};
+ghost use Rattle.std.specs.Prelude.{string_bytes};
 ghost use Rattle.clap.specs.Matches.{found_of};
 ghost use Rattle.cargo_lock.specs.Loads.{IsMeant};
 ghost use Rattle.cargo_lock_parts.specs.declared.error.Error as declared;
 ghost use Rattle.cargo_lock_table_flaws.specs.Marks as marks;
+ghost use Rattle.cargo_lock_encoding.specs.Lockfiles.{LockfileData};
 ghost use Rattle.cargo_lock_encoding.specs.Means.{TextMeans};
-ghost use Rattle.cli_input.specs.Json.{document_path, named_file_of};
-ghost use Rattle.cli_input.specs.Load.{IsGraphOf, IsGraphRead, IsMeantWithCargoChecksums};
+ghost use Rattle.cargo_lock_parts.specs.Error.{IsLong, RefusesUrls};
+ghost use Rattle.cli_input.specs.Json as spec;
+ghost use Rattle.cli_input.specs.Json.{named_file_of};
+ghost use Rattle.cli_input.specs.Limit.{IsAtLimit, IsBeyondFault, IsBeyondLimit, IsInLimit};
+ghost use Rattle.cli_input.specs.Limit.{IsReadInLimit};
+ghost use Rattle.cli_input.specs.Load.{IsGraphOf, IsMeantWithCargoChecksums, IsOwnGraphRead};
 ghost use Rattle.cli_input.specs.Load.{IsOfLockfile, IsOfLockfileUnnamed, IsReadingFault};
+ghost use Rattle.cli_input.specs.Load.{IsTextFault, MeansWithCargoChecksums};
 ghost use Rattle.cli_support.specs.Input.{given_path_in};
 
 use cargo_lock::dependency::graph::Graph;
 use cargo_lock::{Error, Lockfile, ResolveVersion};
 use cargo_lock_display::File;
+use cargo_lock_edges::own_graph;
+use cargo_lock_limit::lockfile_within;
 use cargo_lock_table_flaws::conflict_mark_line;
 use clap::ArgMatches;
 use cli_support::{Fault, words};
 use std::alloc::Global;
 use std::io::Input;
 use std::rt::Files;
+
+/// How many bytes the versions of what packages depend on may have together.
+const LIMIT: u32 = 1 << 28;
 
 /// The lockfile at the path of the option `name`. Fails if it is not read, with the path in the
 /// error, below the words of the library.
@@ -28,60 +40,126 @@ pub fn lockfile<R: Files + Input + AllocGlobal>(
     name: &str,
 ) -> Result<Lockfile, Fault>
     ensures ok { IfOk result IsMeant }
+    ensures allowed { IfOk result (IsInLimit (found_of options.now)) }
     ensures err { IfErr result (IsOfLockfile (given_path_in (found_of options.now) name.now)) }
 {
-    match unnamed_lockfile(rt, options, name) {
+    let argument = words::given_path(options, name);
+    match unnamed_lockfile(rt, options, argument) {
         Ok(lockfile) => Ok(lockfile),
-        Err(fault) => Err(named(rt.alloc(), options, name, fault)),
+        Err(fault) => Err(named(rt.alloc(), argument, fault)),
     }
 }
 
-/// The same without the path in the error, unless the file is too large.
+/// The lockfile at this path. Fails without the path in the error, unless the file is too large or
+/// beyond the limit.
 fn unnamed_lockfile<R: Files + Input + AllocGlobal>(
     rt: &R,
     options: &ArgMatches<'_>,
-    name: &str,
+    argument: &str,
 ) -> Result<Lockfile, Fault>
     ensures ok { IfOk result IsMeant }
-    ensures err { IfErr result
-        (IsOfLockfileUnnamed (given_path_in (found_of options.now) name.now)) }
+    ensures allowed { IfOk result (IsInLimit (found_of options.now)) }
+    ensures err { IfErr result (IsOfLockfileUnnamed argument.now) }
 {
-    let text = words::text(rt, options, name)?;
-    match lockfile_of(rt.alloc(), text.as_str()) {
+    let text = words::text_at(rt, options, argument)?;
+    match unnamed_lockfile_of(rt.alloc(), options, argument, text.as_str()) {
         Ok(lockfile) => Ok(lockfile),
         Err(fault) => Err(fault),
     }
 }
 
-fn lockfile_of(alloc: Global, text: &str) -> Result<Lockfile, Fault>
-    ensures ok { IfOk result (TextMeans text.now) }
-    ensures err { IfErr result (λ fault. (argument : List ℕ)
-        → IsOfLockfileUnnamed argument fault) }
+/// The lockfile of the text that was read from this path. Fails without the path in the error,
+/// unless the text is beyond the limit.
+fn unnamed_lockfile_of(
+    alloc: Global,
+    options: &ArgMatches<'_>,
+    argument: &str,
+    text: &str,
+) -> Result<Lockfile, Fault>
+    ensures ok { IfOk result (IsReadInLimit (found_of options.now) text.now) }
+    ensures err { IfErr result (IsOfLockfileUnnamed argument.now) }
+    ensures limit { IfErr result (IsAtLimit (found_of options.now) text.now) }
 {
-    match Lockfile::from_str(alloc, text) {
-        Ok(lockfile) => Ok(lockfile),
+    match allowed_lockfile(alloc, options, text) {
+        Ok(Some(lockfile)) => Ok(lockfile),
+        Ok(None) => Err(beyond_limit(alloc, argument)),
         Err(error) => Err(Fault::Library(error)),
     }
 }
 
-/// The lockfile at the path of the option or argument `name`. Fails if it is not read, with the
-/// path first in the error.
+/// Reads the text of a lockfile as `Lockfile::from_str` does, with the same errors. It is `None`
+/// where the versions of what its packages depend on have more than 256 MiB together, unless the
+/// arguments lift that limit.
+pub fn allowed_lockfile(
+    alloc: Global,
+    options: &ArgMatches<'_>,
+    text: &str,
+) -> Result<Option<Lockfile>, Error>
+    ensures ok { IfOk result (λ found. MatchOption found
+        (IsBeyondLimit (found_of options.now) text.now)
+        (IsReadInLimit (found_of options.now) text.now)) }
+    ensures err { IfErr result (λ error.
+        RefusesUrls (IsLong text.now) error ((l : LockfileData) → ¬ TextMeans text.now l)) }
+{
+    if options.get_flag("any-size") {
+        let lockfile = Lockfile::from_str(alloc, text)?;
+        return Ok(Some(lockfile));
+    }
+    lockfile_within(alloc, text, LIMIT)
+}
+
+/// The error for a text that was read from this path and is beyond the limit, or out of memory.
+pub fn beyond_limit(alloc: Global, argument: &str) -> Fault
+    ensures { IsBeyondFault argument.now result }
+{
+    match words::shown_at(alloc, argument) {
+        Ok(path) => Fault::TooLongVersions(path),
+        Err(refused) => Fault::from(refused),
+    }
+}
+
+/// A lockfile, and the text that it was read from.
+#[derive(Drop)]
+pub struct WithText {
+    /// The text.
+    pub text: String,
+
+    /// The lockfile.
+    pub lockfile: Lockfile,
+}
+
+/// The lockfile at the path of the option or argument `name`, with its text. Fails if it is not read,
+/// with the path first in the error.
+pub fn lockfile_with_text<R: Files + Input + AllocGlobal>(
+    rt: &R,
+    options: &ArgMatches<'_>,
+    name: &str,
+) -> Result<WithText, Fault>
+    ensures { IfOk result (λ read.
+        IsReadInLimit (found_of options.now) (string_bytes read.text) read.lockfile) }
+{
+    let argument = words::given_path(options, name);
+    let text = text_at(rt, options, argument)?;
+    let lockfile = named_lockfile_of(rt.alloc(), options, argument, text.as_str())?;
+    Ok(WithText { text, lockfile })
+}
+
+/// The same without its text.
 pub fn named_lockfile<R: Files + Input + AllocGlobal>(
     rt: &R,
     options: &ArgMatches<'_>,
     name: &str,
 ) -> Result<Lockfile, Fault>
-    ensures { IfOk result IsMeant }
+    ensures meant { IfOk result IsMeant }
+    ensures allowed { IfOk result (IsInLimit (found_of options.now)) }
 {
-    let text = named_text(rt, options, name)?;
-    match named_lockfile_of(rt.alloc(), options, name, text.as_str()) {
-        Ok(lockfile) => Ok(lockfile),
-        Err(fault) => Err(fault),
-    }
+    let read = lockfile_with_text(rt, options, name)?;
+    let WithText { lockfile, .. } = read;
+    Ok(lockfile)
 }
 
-/// The lockfile whose path the argument `name` has, with the checksums that Cargo reads. Fails if it
-/// is not read, with the path in the error.
+/// The lockfile whose path the argument `name` has, with the checksums that Cargo reads. Fails if
+/// it is not read, with the path in the error.
 pub fn compared_lockfile<R: Files + Input + AllocGlobal>(
     rt: &R,
     options: &ArgMatches<'_>,
@@ -94,104 +172,115 @@ pub fn compared_lockfile<R: Files + Input + AllocGlobal>(
     Ok(compared)
 }
 
+/// The same with its text.
+pub fn compared_with_text<R: Files + Input + AllocGlobal>(
+    rt: &R,
+    options: &ArgMatches<'_>,
+    name: &str,
+) -> Result<WithText, Fault>
+    ensures { IfOk result
+        (λ read. MeansWithCargoChecksums (string_bytes read.text) read.lockfile) }
+{
+    let read = lockfile_with_text(rt, options, name)?;
+    let WithText { text, lockfile } = read;
+    let lockfile = lockfile.with_cargo_checksums(rt.alloc())?;
+    Ok(WithText { text, lockfile })
+}
+
 /// The lockfile of an empty text, which has no packages.
 pub fn lockfile_without_packages(alloc: Global) -> Result<Lockfile, Fault>
     ensures { IfOk result IsMeantWithCargoChecksums }
 {
-    let lockfile = lockfile_of(alloc, "")?;
+    let lockfile = Lockfile::from_str(alloc, "")?;
     let compared = lockfile.with_cargo_checksums(alloc)?;
     Ok(compared)
 }
 
-/// The format of the lockfile at the path of the option `file`, and the graph of its packages. Fails
-/// if it is not read, with the path in the error, or if no package matches a dependency.
+/// The format of the lockfile at the path of the option `file`, and the graph of its packages, as
+/// their dependencies lead in this project's own commands. Fails if it is not read, with the path in
+/// the error, or if no package matches a dependency.
 pub fn named_graph<R: Files + Input + AllocGlobal>(
     rt: &R,
     options: &ArgMatches<'_>,
 ) -> Result<(ResolveVersion, Graph), Fault>
-    ensures { IfOk result (λ read. IsGraphRead read.0 read.1) }
+    ensures { IfOk result (λ read. IsOwnGraphRead read.0 read.1) }
 {
     let lockfile = named_lockfile(rt, options, "file")?;
     let format = lockfile.version;
-    let graph = graph_of(rt.alloc(), lockfile)?;
+    let graph = own_graph(rt.alloc(), &lockfile.packages)?;
     Ok((format, graph))
 }
 
-/// The graph of the lockfile's packages. Fails if no package matches a dependency.
+/// The graph of the lockfile's packages, which is that of its tree. Fails if no package matches a
+/// dependency.
 pub fn graph_of(alloc: Global, lockfile: Lockfile) -> Result<Graph, Error>
     ensures { IfOk result (λ graph. IsGraphOf lockfile graph) }
 {
     lockfile.into_graph(alloc)
 }
 
-/// The text of the lockfile at the path of the option `name`. Fails if it is not read, with the
-/// path in the error.
-pub fn named_text<R: Files + Input + AllocGlobal>(
+/// The text of the lockfile at this path. Fails if it is not read, with the path in the error.
+pub fn text_at<R: Files + Input + AllocGlobal>(
     rt: &R,
     options: &ArgMatches<'_>,
-    name: &str,
+    argument: &str,
 ) -> Result<String, Fault> {
-    match words::text(rt, options, name) {
+    match words::text_at(rt, options, argument) {
         Ok(text) => Ok(text),
-        Err(fault) => Err(named(rt.alloc(), options, name, fault).with_file_first()),
+        Err(fault) => Err(named(rt.alloc(), argument, fault).with_file_first()),
     }
 }
 
-/// The lockfile of the text that was read for the option `name`. Fails if the text is not a
-/// lockfile, as `refusal` says.
+/// The lockfile of the text that was read from this path. Fails if the text is beyond the limit, and
+/// if it is not a lockfile, as `refusal` says.
 pub fn named_lockfile_of(
     alloc: Global,
     options: &ArgMatches<'_>,
-    name: &str,
+    argument: &str,
     text: &str,
 ) -> Result<Lockfile, Fault>
-    ensures ok { IfOk result (TextMeans text.now) }
-    ensures err { IfErr result (λ fault. (error : declared.Error)
-        × IsReadingFault (given_path_in (found_of options.now) name.now) text.now error fault) }
+    ensures ok { IfOk result (IsReadInLimit (found_of options.now) text.now) }
+    ensures err { IfErr result (IsTextFault argument.now text.now) }
+    ensures limit { IfErr result (IsAtLimit (found_of options.now) text.now) }
 {
-    let read = Lockfile::from_str(alloc, text);
+    let read = allowed_lockfile(alloc, options, text);
     match read {
-        Ok(lockfile) => Ok(lockfile),
-        Err(error) => Err(refusal(alloc, options, name, text, error)),
+        Ok(Some(lockfile)) => Ok(lockfile),
+        Ok(None) => Err(beyond_limit(alloc, argument)),
+        Err(error) => Err(refusal(alloc, argument, text, error)),
     }
 }
 
-/// The error for a text that was read for the option `name` and is not a lockfile, where `error` is
-/// that of the library: that it has marks of a conflict, if it is no TOML and has some, and
-/// otherwise `error` with the path first. Out of memory has no path.
-pub fn refusal(
-    alloc: Global,
-    options: &ArgMatches<'_>,
-    name: &str,
-    text: &str,
-    error: Error,
-) -> Fault
-    ensures { IsReadingFault (given_path_in (found_of options.now) name.now) text.now error result }
+/// The error for a text that was read from this path and is not a lockfile, where `error` is that of
+/// the library: that it has marks of a conflict, if it is no TOML and has some, and otherwise `error`
+/// with the path first. Out of memory has no path.
+pub fn refusal(alloc: Global, argument: &str, text: &str, error: Error) -> Fault
+    ensures { IsReadingFault argument.now text.now error result }
 {
     match conflict_mark_line(alloc, text) {
-        Ok(Some(line)) => marked(alloc, options, name, line),
-        Ok(None) => unmarked(alloc, options, name, error),
+        Ok(Some(line)) => marked(alloc, argument, line),
+        Ok(None) => unmarked(alloc, argument, error),
         Err(refused) => Fault::from(refused),
     }
 }
 
 /// The error for a text whose first mark of a conflict is in this line, or out of memory.
-fn marked(alloc: Global, options: &ArgMatches<'_>, name: &str, line: usize) -> Fault
+fn marked(alloc: Global, argument: &str, line: usize) -> Fault
     ensures { (text : List ℕ) (error : declared.Error) → marks.conflict_mark_line text ≡ Some line
-        → IsReadingFault (given_path_in (found_of options.now) name.now) text error result }
+        → IsReadingFault argument.now text error result }
 {
-    match words::input_shown(alloc, options, name) {
+    match words::shown_at(alloc, argument) {
         Ok(path) => Fault::ConflictMarks(path, line),
         Err(refused) => Fault::from(refused),
     }
 }
 
 /// The error for a text without marks of a conflict, or out of memory.
-fn unmarked(alloc: Global, options: &ArgMatches<'_>, name: &str, error: Error) -> Fault
+fn unmarked(alloc: Global, argument: &str, error: Error) -> Fault
     ensures { (text : List ℕ) → marks.conflict_mark_line text ≡ None
-        → IsReadingFault (given_path_in (found_of options.now) name.now) text error result }
+        → IsReadingFault argument.now text error result }
 {
-    match words::input_shown(alloc, options, name) {
+    match words::shown_at(alloc, argument) {
         Ok(path) => Fault::Library(error).in_file(path).with_file_first(),
         Err(refused) => Fault::from(refused),
     }
@@ -207,12 +296,19 @@ pub fn file<'a>(options: &ArgMatches<'a>, name: &str, lockfile: &Lockfile) -> Fi
 /// The lockfile of this format at the path of the option or argument `name`, as a document has it.
 pub fn file_in<'a>(options: &ArgMatches<'a>, name: &str, format: ResolveVersion) -> File<'a>
     ensures { result ≡ record {
-      path = document_path (given_path_in (found_of options.now) name.now);
+      path = spec.document_path (given_path_in (found_of options.now) name.now);
       format = format;
     } }
 {
+    file_at(words::given_path(options, name), format)
+}
+
+/// The lockfile of this format at this path, as a document has it.
+pub fn file_at(argument: &str, format: ResolveVersion) -> File<'_>
+    ensures { result ≡ record { path = spec.document_path argument.now; format = format } }
+{
     File {
-        path: path_in_documents(options, name),
+        path: document_path(argument),
         format,
     }
 }
@@ -220,21 +316,25 @@ pub fn file_in<'a>(options: &ArgMatches<'a>, name: &str, format: ResolveVersion)
 /// The path of the option or argument `name` as a document has it. Standard input has none.
 pub fn path_in_documents<'a>(options: &ArgMatches<'a>, name: &str) -> Option<&'a str>
     ensures { option_map (λ t. t.now) result
-        ≡ document_path (given_path_in (found_of options.now) name.now) }
+        ≡ spec.document_path (given_path_in (found_of options.now) name.now) }
 {
-    let path = words::given_path(options, name);
-    if path == "-" {
-        return None;
-    }
-    Some(path)
+    document_path(words::given_path(options, name))
 }
 
-/// The error with the path of the option or argument `name`, or out of memory.
-fn named(alloc: Global, options: &ArgMatches<'_>, name: &str, fault: Fault) -> Fault
-    ensures { IsOfLockfileUnnamed (given_path_in (found_of options.now) name.now) fault
-        → IsOfLockfile (given_path_in (found_of options.now) name.now) result }
+fn document_path(argument: &str) -> Option<&str>
+    ensures { option_map (λ t. t.now) result ≡ spec.document_path argument.now }
 {
-    match words::input_shown(alloc, options, name) {
+    if argument == "-" {
+        return None;
+    }
+    Some(argument)
+}
+
+/// The error with this path of the lockfile, or out of memory.
+fn named(alloc: Global, argument: &str, fault: Fault) -> Fault
+    ensures { IsOfLockfileUnnamed argument.now fault → IsOfLockfile argument.now result }
+{
+    match words::shown_at(alloc, argument) {
         Ok(path) => fault.in_file(path),
         Err(refused) => Fault::from(refused),
     }

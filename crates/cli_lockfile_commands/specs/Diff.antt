@@ -16,8 +16,11 @@ use Rattle.cargo_lock_diff.specs.Summary.{summary_of, summary_text}
 use Rattle.cargo_lock_encoding.specs.Lockfiles.{LockfileData}
 use Rattle.cargo_lock_diff.specs.Document.{difference_json}
 use Rattle.cargo_lock_display.specs.File.{FileData}
+use Rattle.cargo_lock_location.specs.Lines.{LinesData}
 use Rattle.cli_input.specs.Json.{IsAsked, IsUnasked, PrintsAnswer, named_file_of}
-use Rattle.cli_input.specs.Load.{IsMeantWithCargoChecksums}
+use Rattle.cli_input.specs.Load.{IsMeantWithCargoChecksums, MeansWithCargoChecksums}
+use Rattle.cli_input.specs.Told.{lines_in_text}
+use Rattle.cli_lockfile_commands.specs.declared.diff.Sides.{Sides}
 
 -- the words that are given for the option of this name, in their order
 abbrev pub given_words : Found → List ℕ → List (List ℕ)
@@ -57,27 +60,59 @@ last_line (change ∷ changes) =
 abbrev pub told_text : Commits → List ChangeData → List ℕ
 told_text commits told = changes_by commits told ++ last_line told
 
+-- the lockfiles that are compared, as a document has them, and the packages of the new one with the
+-- lines of its text in which they begin
+pub record SidesData : Type 0 where
+  pub before : FileData
+  pub after : FileData
+  pub lines : LinesData
+
+-- the data of the lockfiles of the program
+abbrev pub sides_of : Sides → SidesData
+sides_of s = record {
+  before = s.before.now;
+  after = s.after.now;
+  lines = lines_in_text s.text.now s.packages.now;
+}
+
 -- the text is that of the changes of a difference, and the status is that of both
-abbrev pub PrintsChanges : Found → FileData → FileData → DifferenceData → Option (List ℕ)
+abbrev pub PrintsChanges : Found → SidesData → DifferenceData → Option (List ℕ)
     → Option (List ℕ) → Type 0 → Type 0 → Type 0
-PrintsChanges found before after d old new failure success = (told : List ChangeData)
+PrintsChanges found s d old new failure success = (told : List ChangeData)
     × (commits : Commits) × IsTold found d told × AreCommitsAsked found commits
-    × PrintsAnswer found (difference_json before after told) (told_text commits told) old new
+    × PrintsAnswer found (difference_json s.before s.after s.lines told)
+    (told_text commits told) old new
     × IsStatus found d told failure success
 
+-- two lockfiles, of which the new one has this text, as they are compared
+abbrev pub sides_after : Found → FileData → List ℕ → LockfileData → SidesData
+sides_after found before text after = record {
+  before = before;
+  after = named_file_of found (codes "new") after;
+  lines = lines_in_text text after.packages;
+}
+
+abbrev pub sides_in : Found → LockfileData → List ℕ → LockfileData → SidesData
+sides_in found before = sides_after found (named_file_of found (codes "old") before)
+
 -- the same for the difference of the packages of two lockfiles, where these sources are accepted
-abbrev pub PrintsDifferenceOf : Found → List Accepted → LockfileData → LockfileData
+abbrev pub PrintsDifferenceOf : Found → List Accepted → LockfileData → List ℕ → LockfileData
     → Option (List ℕ) → Option (List ℕ) → Type 0 → Type 0 → Type 0
-PrintsDifferenceOf found accepted before after old new failure success = (d : DifferenceData)
+PrintsDifferenceOf found accepted before text after old new failure success = (d : DifferenceData)
     × IsDifferenceBut accepted before.packages after.packages d
-    × PrintsChanges found (named_file_of found (codes "old") before)
-    (named_file_of found (codes "new") after) d
-    old new failure success
+    × PrintsChanges found (sides_in found before text after) d old new failure success
+
+-- the same for some new lockfile
+abbrev pub PrintsDifferenceFrom : Found → List Accepted → LockfileData → Option (List ℕ)
+    → Option (List ℕ) → Type 0 → Type 0 → Type 0
+PrintsDifferenceFrom found accepted before old new failure success = (after : LockfileData)
+    × (text : List ℕ) × MeansWithCargoChecksums text after
+    × PrintsDifferenceOf found accepted before text after old new failure success
 
 -- the same for two such lockfiles, and the sources that the words of `--moved-ok` name
 abbrev pub PrintsDifference : Found → Option (List ℕ) → Option (List ℕ) → Type 0 → Type 0 → Type 0
-PrintsDifference found old new failure success = (before after : LockfileData)
+PrintsDifference found old new failure success = (before after : LockfileData) × (text : List ℕ)
     × (accepted : List Accepted)
-    × IsMeantWithCargoChecksums before × IsMeantWithCargoChecksums after
+    × IsMeantWithCargoChecksums before × MeansWithCargoChecksums text after
     × AllZip IsAcceptedBy (given_words found (codes "moved-ok")) accepted
-    × PrintsDifferenceOf found accepted before after old new failure success
+    × PrintsDifferenceOf found accepted before text after old new failure success

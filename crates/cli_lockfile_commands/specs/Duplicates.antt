@@ -8,7 +8,7 @@ use Rattle.cargo_lock.specs.Loads.{IsMeant}
 use Rattle.cargo_lock_query.specs.DuplicatesDocument.{groups_json}
 use Rattle.cargo_lock_display.specs.File.{FileData}
 use Rattle.cli_input.specs.Json.{IsAsked, IsUnasked, PrintsAnswer, named_file_of}
-use Rattle.cli_input.specs.Load.{IsGraphOf}
+use Rattle.cargo_lock_edges.specs.OwnGraph.{IsOwnGraph}
 
 -- the status is a failure exactly if there is a name of several packages and the arguments ask for
 -- that, and otherwise a success
@@ -29,5 +29,5 @@ PrintsNames found file graph old new failure success = (groups : List GroupData)
 -- the same for the graph of a lockfile that some text means
 abbrev pub PrintsDuplicates : Found → Option (List ℕ) → Option (List ℕ) → Type 0 → Type 0 → Type 0
 PrintsDuplicates found old new failure success = (l : LockfileData) × (graph : GraphData)
-    × IsMeant l × IsGraphOf l graph
+    × IsMeant l × IsOwnGraph l.packages graph
     × PrintsNames found (named_file_of found (codes "file") l) graph old new failure success

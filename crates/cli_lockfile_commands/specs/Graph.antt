@@ -22,7 +22,7 @@ use Rattle.cli_input.specs.Json.{IsFlag}
 use Rattle.cargo_lock_query.specs.Spec.{SpecFits}
 use Rattle.cargo_lock_query.specs.Starts.{IsMember}
 use Rattle.cli_lockfile_commands.specs.Tree.{direction_of, given_specs}
-use Rattle.cli_input.specs.Load.{IsGraphOf}
+use Rattle.cargo_lock_edges.specs.OwnGraph.{IsOwnGraph}
 
 -- the program that draws the text: Mermaid if the arguments name it, and otherwise Graphviz; the
 -- parser takes no other name
@@ -73,5 +73,6 @@ pub record DrawsPicture (found : Found) (graph : GraphData) (old new : Option (L
 
 -- the same for the graph of a lockfile that some text means
 abbrev pub DrawsGraph : Found → Option (List ℕ) → Option (List ℕ) → Type 0
-DrawsGraph found old new = (l : LockfileData) × (graph : GraphData) × IsMeant l × IsGraphOf l graph
+DrawsGraph found old new = (l : LockfileData) × (graph : GraphData) × IsMeant l
+    × IsOwnGraph l.packages graph
     × DrawsPicture found graph old new

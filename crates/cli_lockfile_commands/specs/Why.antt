@@ -12,7 +12,7 @@ use Rattle.cargo_lock_display.specs.File.{FileData}
 use Rattle.cargo_lock_query.specs.WhyDocument.{answers_json}
 use Rattle.cli_input.specs.Json.{IsFlag, PrintsAnswer, named_file_of}
 use Rattle.cargo_lock_query.specs.Spec.{SpecFits}
-use Rattle.cli_input.specs.Load.{IsGraphOf}
+use Rattle.cargo_lock_edges.specs.OwnGraph.{IsOwnGraph}
 
 -- the specification of a package
 abbrev pub given_spec : Found → List ℕ
@@ -32,9 +32,10 @@ pub record AreAsked (found : Found) (graph : GraphData) (answers : List AnswerDa
 abbrev pub PrintsAsked : Found → FileData → GraphData → Option (List ℕ) → Option (List ℕ) → Type 0
 PrintsAsked found file graph old new = (answers : List AnswerData)
     × AreAsked found graph answers
-    × PrintsAnswer found (answers_json file answers) (answers_text answers) old new
+    × PrintsAnswer found (answers_json file answers) (answers_text graph.packages answers) old new
 
 -- the same for the graph of a lockfile that some text means
 abbrev pub PrintsWhy : Found → Option (List ℕ) → Option (List ℕ) → Type 0
-PrintsWhy found old new = (l : LockfileData) × (graph : GraphData) × IsMeant l × IsGraphOf l graph
+PrintsWhy found old new = (l : LockfileData) × (graph : GraphData) × IsMeant l
+    × IsOwnGraph l.packages graph
     × PrintsAsked found (named_file_of found (codes "file") l) graph old new

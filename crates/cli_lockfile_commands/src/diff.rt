@@ -1,23 +1,27 @@
 //! The command `diff`: what differs between the packages of two lockfiles.
-ghost use Rattle.std.specs.Prelude.{◌≡◌, IfOk, Some, codes, map};
+ghost use Rattle.std.specs.Prelude.{◌≡◌, IfOk, Some, codes, map, string_bytes};
 ghost use Rattle.std.specs.Fmt.{DisplaysOnOk};
 ghost use Rattle.std.specs.List.{AllZip};
 ghost use Rattle.clap.specs.Matches.{found_of};
 ghost use Rattle.cargo_lock_diff.specs.Change.{change_of, changes_by};
+ghost use Rattle.cargo_lock_encoding.specs.Lockfiles.{LockfileData};
+ghost use Rattle.cli_input.specs.Load.{IsMeantWithCargoChecksums};
 ghost use Rattle.cli_lockfile_commands.specs.Diff.{AreCommitsAsked, IsAcceptedBy, IsStatus};
 ghost use Rattle.cli_lockfile_commands.specs.Diff.{IsTold, PrintsChanges};
-ghost use Rattle.cli_lockfile_commands.specs.Diff.{PrintsDifference, PrintsDifferenceOf};
-ghost use Rattle.cli_lockfile_commands.specs.Diff.{given_words, last_line};
+ghost use Rattle.cli_lockfile_commands.specs.Diff.{PrintsDifference, PrintsDifferenceFrom};
+ghost use Rattle.cli_lockfile_commands.specs.Diff.{PrintsDifferenceOf};
+ghost use Rattle.cli_lockfile_commands.specs.Diff.{given_words, last_line, sides_after, sides_of};
 
-use cargo_lock::{Error, Lockfile};
+use cargo_lock::{Error, Lockfile, Package};
 use cargo_lock_diff::{Accepted, Change, Commits, Difference, Line, Summary, difference_json};
 use cargo_lock_display::File;
+use cargo_lock_location::{PackageLines, package_lines};
 use clap::{Arg, ArgAction, ArgMatches, Command};
 use cli_input::answer::{Answer, print_answer};
-use cli_input::load::{compared_lockfile, file};
+use cli_input::load::{WithText, compared_lockfile, compared_with_text, file};
 use cli_support::Fault;
 use cli_support::terminal::in_line;
-use cli_support::words::{any_size, flag, is_standard, json, long_flag};
+use cli_support::words::{any_size, flag, is_standard, json, lockfile_path, long_flag};
 use std::alloc::{AllocError, Global};
 use std::fmt;
 use std::io::{Input, Write};
@@ -64,19 +68,31 @@ const MOVED_OK: &str = "--moved-ok takes a URL, as `https://github.com/rust-lang
 
 /// The parser of this command: its options and the paths of two lockfiles.
 pub fn command<'a>(alloc: Global) -> Result<Command<'a>, AllocError> {
+    let command = with_lockfiles(alloc)?;
+    let command = with_flags(alloc, command)?;
+    command
+        .arg(moved_ok(alloc).help(MOVED_OK_HELP))?
+        .arg(json(alloc)?)
+}
+
+/// The parser with the paths of the lockfiles, and how they are read.
+fn with_lockfiles<'a>(alloc: Global) -> Result<Command<'a>, AllocError> {
     Command::new(alloc, "diff")
         .about("Shows what differs between the packages of two lockfiles")
         .after_help(DIFF_HELP)
-        .arg(path(alloc, "old", "OLD").help(OLD_HELP))?
-        .arg(path(alloc, "new", "NEW").help(NEW_HELP))?
-        .arg(any_size(alloc)?)?
+        .arg(lockfile_path(alloc, "old", "OLD").help(OLD_HELP))?
+        .arg(lockfile_path(alloc, "new", "NEW").help(NEW_HELP))?
+        .arg(any_size(alloc)?)
+}
+
+/// The same with the flags for what is shown, and for the status.
+fn with_flags<'a>(alloc: Global, command: Command<'a>) -> Result<Command<'a>, AllocError> {
+    command
         .arg(flag(alloc, "dependencies", 'd')?.help("Shows other dependencies of packages too"))?
         .arg(long_flag(alloc, "exit-code")?.help(
             "Ends with status 1 where anything differs, dependencies only with -d",
         ))?
-        .arg(long_flag(alloc, "full")?.help("Prints all digits of commits that move"))?
-        .arg(moved_ok(alloc).help(MOVED_OK_HELP))?
-        .arg(json(alloc)?)
+        .arg(long_flag(alloc, "full")?.help("Prints all digits of commits that move"))
 }
 
 /// The option for a source to which packages may move, one each time that it is given.
@@ -85,14 +101,6 @@ fn moved_ok<'a>(alloc: Global) -> Arg<'a> {
         .long("moved-ok")
         .value_name("URL|path")
         .action(ArgAction::Append)
-}
-
-/// The path of a lockfile, which help shows as `shown`.
-fn path<'a>(alloc: Global, name: &'a str, shown: &'a str) -> Arg<'a> {
-    Arg::new(alloc, name)
-        .value_name(shown)
-        .required(true)
-        .action(ArgAction::Set)
 }
 
 /// Prints what differs between the packages of two lockfiles, a line for each change, and if the
@@ -113,9 +121,39 @@ pub fn run<R: Files + Input + AllocGlobal, W: Write>(
         return Err(Fault::OneInput);
     }
     let accepted = accepted(rt.alloc(), options)?;
+    compare(rt, options, &accepted, out)
+}
+
+/// The same where these sources are accepted.
+fn compare<R: Files + Input + AllocGlobal, W: Write>(
+    rt: &R,
+    options: &ArgMatches<'_>,
+    accepted: &[Accepted],
+    out: &mut W,
+) -> Result<ExitCode, Fault>
+    ensures { IfOk result (λ status. (before : LockfileData) × IsMeantWithCargoChecksums before
+        × PrintsDifferenceFrom (found_of options.now) accepted.now before
+        (W.contents out.old) (W.contents out.new)
+        (status ≡ ExitCode.FAILURE) (status ≡ ExitCode.SUCCESS)) }
+{
     let old = compared_lockfile(rt, options, "old")?;
-    let new = compared_lockfile(rt, options, "new")?;
-    report(rt.alloc(), options, &accepted, &old, &new, out)
+    compare_with(rt, options, accepted, &old, out)
+}
+
+/// The same for this old lockfile.
+fn compare_with<R: Files + Input + AllocGlobal, W: Write>(
+    rt: &R,
+    options: &ArgMatches<'_>,
+    accepted: &[Accepted],
+    old: &Lockfile,
+    out: &mut W,
+) -> Result<ExitCode, Fault>
+    ensures { IfOk result (λ status. PrintsDifferenceFrom (found_of options.now) accepted.now old.now
+        (W.contents out.old) (W.contents out.new)
+        (status ≡ ExitCode.FAILURE) (status ≡ ExitCode.SUCCESS)) }
+{
+    let new = compared_with_text(rt, options, "new")?;
+    report(rt.alloc(), options, accepted, old, &new, out)
 }
 
 /// The sources that the arguments accept. Fails if one of their words names none.
@@ -171,39 +209,74 @@ fn report<W: Write>(
     options: &ArgMatches<'_>,
     accepted: &[Accepted],
     old: &Lockfile,
-    new: &Lockfile,
+    new: &WithText,
     out: &mut W,
 ) -> Result<ExitCode, Fault>
     ensures { IfOk result (λ status. PrintsDifferenceOf (found_of options.now) accepted.now
-        old.now new.now (W.contents out.old) (W.contents out.new)
+        old.now (string_bytes new.now.text) new.now.lockfile
+        (W.contents out.old) (W.contents out.new)
         (status ≡ ExitCode.FAILURE) (status ≡ ExitCode.SUCCESS)) }
 {
-    let difference = Difference::accepting(alloc, accepted, &old.packages, &new.packages)?;
+    let lockfile = &new.lockfile;
+    let packages = lockfile.packages.as_slice();
+    let difference = Difference::accepting(alloc, accepted, &old.packages, packages)?;
     let before = file(options, "old", old);
-    let after = file(options, "new", new);
-    report_changes(alloc, options, &before, &after, &difference, out)
+    report_difference(alloc, options, &before, new, &difference, out)
+}
+
+/// Prints the changes of a difference of this old lockfile and this new one. Returns the status.
+fn report_difference<W: Write>(
+    alloc: Global,
+    options: &ArgMatches<'_>,
+    before: &File<'_>,
+    new: &WithText,
+    difference: &Difference<'_>,
+    out: &mut W,
+) -> Result<ExitCode, Fault>
+    ensures { IfOk result (λ status. PrintsChanges (found_of options.now)
+        (sides_after (found_of options.now) before.now (string_bytes new.now.text) new.now.lockfile)
+        difference.now (W.contents out.old) (W.contents out.new)
+        (status ≡ ExitCode.FAILURE) (status ≡ ExitCode.SUCCESS)) }
+{
+    let lockfile = &new.lockfile;
+    let after = file(options, "new", lockfile);
+    let sides = Sides {
+        before,
+        after: &after,
+        text: new.text.as_str(),
+        packages: lockfile.packages.as_slice(),
+    };
+    report_changes(alloc, options, sides, difference, out)
+}
+
+/// The lockfiles that are compared, the text of the new one, and its packages.
+#[derive(Clone, Copy)]
+struct Sides<'a> {
+    before: &'a File<'a>,
+    after: &'a File<'a>,
+    text: &'a str,
+    packages: &'a [Package],
 }
 
 /// Prints the changes of a difference. Returns the status.
 fn report_changes<W: Write>(
     alloc: Global,
     options: &ArgMatches<'_>,
-    before: &File<'_>,
-    after: &File<'_>,
+    sides: Sides<'_>,
     difference: &Difference<'_>,
     out: &mut W,
 ) -> Result<ExitCode, Fault>
-    ensures { IfOk result (λ status. PrintsChanges (found_of options.now) before.now after.now
+    ensures { IfOk result (λ status. PrintsChanges (found_of options.now) (sides_of sides.entry)
         difference.now (W.contents out.old) (W.contents out.new)
         (status ≡ ExitCode.FAILURE) (status ≡ ExitCode.SUCCESS)) }
 {
     let changes = changes(alloc, options, difference)?;
     let told = Told {
-        before,
+        sides,
         changes: &changes,
         commits: commits(options),
     };
-    print_answer(alloc, options, after, &told, out)?;
+    print_answer(alloc, options, sides.after, &told, out)?;
     Ok(status(options, difference, &changes))
 }
 
@@ -231,16 +304,16 @@ fn commits(options: &ArgMatches<'_>) -> Commits
     }
 }
 
-/// The changes that are printed, the lockfile before them, and how commits are printed. `Display`
-/// writes the changes in their order, and then how many of each kind there are.
+/// The changes that are printed, the lockfiles between which they are, and how commits are printed.
+/// `Display` writes the changes in their order, and then how many of each kind there are.
 #[derive(Clone, Copy)]
-struct Told<'a, 'b, 'd> {
-    before: &'a File<'b>,
+struct Told<'a, 'd> {
+    sides: Sides<'a>,
     changes: &'a [Change<'d>],
     commits: Commits,
 }
 
-impl fmt::Display for Told<'_, '_, '_> {
+impl fmt::Display for Told<'_, '_> {
     ghost use Rattle.std.specs.Prelude.{Some, map};
     ghost use Rattle.cargo_lock_diff.specs.Change.{change_of};
     ghost use Rattle.cli_lockfile_commands.specs.Diff.{told_text};
@@ -253,16 +326,21 @@ impl fmt::Display for Told<'_, '_, '_> {
     }
 }
 
-impl Answer for Told<'_, '_, '_> {
+impl Answer for Told<'_, '_> {
     ghost use Rattle.std.specs.Prelude.{map};
     ghost use Rattle.cargo_lock_diff.specs.Change.{change_of};
     ghost use Rattle.cargo_lock_diff.specs.Document.{difference_json};
+    ghost use Rattle.cli_input.specs.Told.{lines_in_text};
 
-    ghost json = { λ after told.
-        difference_json told.before.now after (map change_of told.changes.now) };
+    ghost json = { λ after told. difference_json told.sides.before.now after
+        (lines_in_text told.sides.text.now told.sides.packages.now)
+        (map change_of told.changes.now) };
 
     fn document(&self, alloc: Global, after: &File<'_>) -> Result<String, AllocError> {
-        difference_json(alloc, self.before, after, self.changes)
+        let sides = self.sides;
+        let numbers = package_lines(alloc, sides.text, sides.packages)?;
+        let lines = PackageLines::new(alloc, sides.packages, &numbers)?;
+        difference_json(alloc, sides.before, after, self.changes, &lines)
     }
 }
 

@@ -22,7 +22,8 @@ const DUPLICATES_HELP: &str = "\
 Each name that several packages have is shown with these packages:
   NAME
     VERSION SRC  needed by NAME VERSION, ..    a package, and those that depend on it
-SRC is in round brackets: (path) for a package without a source, and nothing for crates.io. The last \
+SRC is in round brackets: nothing for crates.io, and (path) for a package without a source where \
+another one has its name and version. The last \
 line counts these crates, their versions, and the packages that are more than one of each: \
 1 crate in 2 versions (1 surplus package). Where no name is there, nothing is printed.";
 

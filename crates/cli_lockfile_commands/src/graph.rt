@@ -7,9 +7,8 @@ ghost use Rattle.cli_lockfile_commands.specs.Graph.{AreBegun, AreDrawnStarts, Ar
 ghost use Rattle.cli_lockfile_commands.specs.Graph.{DrawsPicture, target_in};
 ghost use Rattle.cli_lockfile_commands.specs.Tree.{given_specs};
 
-use crate::tree::direction;
 use cargo_lock::Package;
-use cargo_lock::dependency::graph::{Graph, NodeIndex};
+use cargo_lock::dependency::graph::{EdgeDirection, Graph, NodeIndex};
 use cargo_lock::dependency::tree::roots_of;
 use cargo_lock_diagram::{Diagram, Picture, Target, picture_from};
 use cargo_lock_query::reason::members;
@@ -86,7 +85,7 @@ fn draw_graph<W: Write>(
         (W.contents out.old) (W.contents out.new)) }
 {
     let starts = starts(alloc, graph, options)?;
-    let direction = direction(options.get_flag("invert"));
+    let direction = EdgeDirection::of_tree(options.get_flag("invert"));
     let picture = picture_from(alloc, graph, &starts, direction)?;
     put_picture(out, target(options), graph, &picture)
 }

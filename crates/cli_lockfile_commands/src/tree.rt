@@ -92,21 +92,10 @@ fn draw_starts<W: Write>(
 {
     let starts = starts(alloc, graph, options)?;
     let style = Style {
-        direction: direction(options.get_flag("invert")),
+        direction: EdgeDirection::of_tree(options.get_flag("invert")),
         exact: options.get_flag("exact"),
     };
     print_trees(alloc, out, graph, starts.as_slice(), style)
-}
-
-/// The direction of edges, which a flag turns round.
-pub(crate) fn direction(inverted: bool) -> EdgeDirection
-    ensures { result ≡ direction_of inverted }
-{
-    if inverted {
-        EdgeDirection::Incoming
-    } else {
-        EdgeDirection::Outgoing
-    }
 }
 
 /// The nodes whose trees are printed.

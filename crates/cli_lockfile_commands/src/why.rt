@@ -27,7 +27,9 @@ Each answer is a shortest chain of dependencies, with an empty line between two:
 The last package is a root, on which none depends, or, where no root leads to the package, one \
 without a source. Of several shortest chains it is the one whose packages come first in the \
 lockfile, compared from the root on. Where there is none, the answer is
-  nothing leads to NAME VERSION";
+  nothing leads to NAME VERSION
+Where several packages have NAME and VERSION, the source is behind them in round brackets: (path) \
+for a package without a source, and nothing for crates.io.";
 
 /// The specification, as help shows it.
 const SPEC_HELP: &str = "\
@@ -97,8 +99,9 @@ fn asked<'a>(
     options: &ArgMatches<'_>,
     graph: &'a Graph,
 ) -> Result<Answers<'a>, Fault>
-    ensures { IfOk result (λ made. AreAsked (found_of options.now) graph.now
+    ensures answers { IfOk result (λ made. AreAsked (found_of options.now) graph.now
         (map answer_of made.answers.items)) }
+    ensures list { IfOk result (λ made. made.list ≡ graph.now.packages) }
 {
     let nodes = some_fitting(alloc, graph.packages(), given_spec(options))?;
     let answers = Answers::about(alloc, graph, &nodes, options.get_flag("all"))?;

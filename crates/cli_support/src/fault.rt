@@ -50,6 +50,11 @@ pub enum Fault {
     #[error("error: {0}: lockfile of 256 MiB or more; --any-size reads it\n")]
     TooLarge(String),
 
+    /// The versions of what the packages of the lockfile at this path depend on have more than 256 MiB
+    /// together.
+    #[error("error: {0}: versions of dependencies of over 256 MiB; --any-size reads it\n")]
+    TooLongVersions(String),
+
     /// The lockfile at this path is no TOML, and its line of this number has a mark of a conflict.
     #[error("error: {0} has conflict marks (line {1})\n")]
     ConflictMarks(String, usize),
@@ -65,6 +70,10 @@ pub enum Fault {
     /// Two lockfiles were to be read from standard input.
     #[error("error: standard input cannot be two lockfiles\n")]
     OneInput,
+
+    /// A path of standard input was given, and the lockfile is a file.
+    #[error("error: --name is for standard input\n")]
+    NameOfFile,
 
     /// A lockfile cannot be merged, for this reason.
     #[error("error: {0}\n")]

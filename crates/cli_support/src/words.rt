@@ -32,6 +32,9 @@ const STANDARD: &str = "-";
 /// The options of the program itself.
 const OWN_OPTIONS: [&str; 4] = ["-h", "--help", "-V", "--version"];
 
+/// The formats of reports.
+const FORMATS: [&str; 2] = ["sarif", "github"];
+
 /// What messages call standard input.
 const STANDARD_INPUT: &str = "standard input";
 
@@ -84,30 +87,28 @@ fn is_option(word: &str) -> bool {
     word.starts_with('-') && !OWN_OPTIONS.contains(&word)
 }
 
-/// The text of the lockfile at the path of the option or argument `name`, or of standard input if
-/// that is `-`. Fails if it is not read, and if it has 256 MiB or more, unless the options allow
-/// that.
-pub fn text<R: Files + Input + AllocGlobal>(
+/// The text of the lockfile at this path, or of standard input if that is `-`. Fails if it is not
+/// read, and if it has 256 MiB or more, unless the options allow that.
+pub fn text_at<R: Files + Input + AllocGlobal>(
     rt: &R,
     options: &ArgMatches<'_>,
-    name: &str,
+    argument: &str,
 ) -> Result<String, Fault>
-    ensures { IfErr result
-        (λ fault. IsOfReading fault (given_path_in (found_of options.now) name.now)) }
+    ensures { IfErr result (λ fault. IsOfReading fault argument.now) }
 {
     let limit = if options.get_flag("any-size") {
         u64::MAX
     } else {
         LIMIT
     };
-    let read = match input_path(options, name) {
+    let read = match path_at(argument) {
         Some(path) => file_bytes(rt, path, limit),
         None => input_bytes(rt, limit),
     };
     match read {
         Ok(bytes) if (bytes.len() as u64) < limit => of_bytes(bytes),
-        Ok(_) => Err(too_large(rt.alloc(), options, name)),
-        Err(error) => Err(not_read(given_path(options, name), error)),
+        Ok(_) => Err(too_large(rt.alloc(), argument)),
+        Err(error) => Err(not_read(argument, error)),
     }
 }
 
@@ -135,10 +136,10 @@ fn input_bytes<R: Input + AllocGlobal>(rt: &R, limit: u64) -> io::Result<Vec<u8>
 }
 
 /// The error for a lockfile that is too large, or out of memory.
-fn too_large(alloc: Global, options: &ArgMatches<'_>, name: &str) -> Fault
-    ensures { IsOfReading result (given_path_in (found_of options.now) name.now) }
+fn too_large(alloc: Global, argument: &str) -> Fault
+    ensures { IsOfReading result argument.now }
 {
-    match input_shown(alloc, options, name) {
+    match shown_at(alloc, argument) {
         Ok(name) => Fault::TooLarge(name),
         Err(refused) => Fault::from(refused),
     }
@@ -161,29 +162,22 @@ pub fn given_path<'a>(options: &ArgMatches<'a>, name: &str) -> &'a str
     options.get_str(name).unwrap_or(DEFAULT_PATH)
 }
 
-/// The path of the option or argument `name`, or `Cargo.lock` without one. `-` is no path, but
-/// standard input.
-pub fn input_path<'a>(options: &ArgMatches<'a>, name: &str) -> Option<Path<'a>>
-    ensures { IsInputPath (given_path_in (found_of options.now) name.now)
-        (option_map path_bytes result) }
+/// The path that an argument is. `-` is no path, but standard input.
+fn path_at(argument: &str) -> Option<Path<'_>>
+    ensures { IsInputPath argument.now (option_map path_bytes result) }
 {
-    match given_path(options, name) {
+    match argument {
         STANDARD => None,
         path => Some(Path::new(path)),
     }
 }
 
-/// What messages call the lockfile of the option or argument `name`: its path as it is shown, or
-/// `standard input`. Fails when out of memory.
-pub fn input_shown(
-    alloc: Global,
-    options: &ArgMatches<'_>,
-    name: &str,
-) -> Result<String, AllocError>
-    ensures { IfOk result (λ text.
-        IsInputShown (given_path_in (found_of options.now) name.now) (string_bytes text)) }
+/// What messages call the lockfile at this path: the path as it is shown, or `standard input`. Fails
+/// when out of memory.
+pub fn shown_at(alloc: Global, argument: &str) -> Result<String, AllocError>
+    ensures { IfOk result (λ text. IsInputShown argument.now (string_bytes text)) }
 {
-    match input_path(options, name) {
+    match path_at(argument) {
         Some(path) => path_shown(alloc, path),
         None => String::from_str(alloc, STANDARD_INPUT),
     }
@@ -220,6 +214,27 @@ pub fn json<'a>(alloc: Global) -> Result<Arg<'a>, AllocError> {
     Ok(flag.help("Prints one line of JSON"))
 }
 
+/// The option to print a report that another program reads.
+pub fn format<'a>(alloc: Global) -> Result<Arg<'a>, AllocError> {
+    Arg::new(alloc, "format")
+        .long("format")
+        .value_name("FORMAT")
+        .value_parser(FORMATS.as_slice())
+        .help("Prints SARIF 2.1.0 in one line, or annotations of GitHub")
+        .action(ArgAction::Set)
+        .conflicts_with("json")
+}
+
+/// The option for the path of standard input in such a report.
+pub fn name<'a>(alloc: Global) -> Result<Arg<'a>, AllocError> {
+    Arg::new(alloc, "name")
+        .long("name")
+        .value_name("PATH")
+        .help("The path of standard input in the report, `Cargo.lock` without it")
+        .action(ArgAction::Set)
+        .requires_arg("format")
+}
+
 /// The option to read a lockfile of any length.
 pub fn any_size<'a>(alloc: Global) -> Result<Arg<'a>, AllocError> {
     let flag = long_flag(alloc, "any-size")?;
@@ -229,6 +244,14 @@ pub fn any_size<'a>(alloc: Global) -> Result<Arg<'a>, AllocError> {
 /// The option for the file that is written.
 pub fn output<'a>(alloc: Global) -> Arg<'a> {
     value(alloc, "output", 'o', "PATH").help("The file that is written, - for standard output")
+}
+
+/// An argument that must be there: the path of a lockfile, which help shows as `shown`.
+pub fn lockfile_path<'a>(alloc: Global, name: &'a str, shown: &'a str) -> Arg<'a> {
+    Arg::new(alloc, name)
+        .value_name(shown)
+        .required(true)
+        .action(ArgAction::Set)
 }
 
 /// An option that takes a value, which help shows as `shown`. The value may begin with a hyphen.

@@ -8,7 +8,7 @@ use cargo_lock::dependency::graph::{Graph, NodeIndex};
 use cargo_lock::{Error, ResolveVersion};
 use cargo_lock_display::File;
 use cargo_lock_query::{
-    Answer, Answers, answers_json, chains_of_each, needers, shortest_chain, why, why_each,
+    AnswerText, Answers, answers_json, chains_of_each, needers, shortest_chain, why, why_each,
 };
 
 /// Prints why each package of a tree is there.
@@ -93,8 +93,17 @@ pub fn print_answers(rt: &HostRuntime, tree: &Tree, nodes: &[NodeIndex]) -> Resu
 {
     let answers = Answers::about(rt.alloc(), tree.graph(), nodes, true)?;
     print!(rt; "{answers}")?;
-    print_answers_document(rt, &answers)?;
-    print_nothing(rt, tree.graph())
+    print_each_answer(rt, &answers)?;
+    print_answers_document(rt, &answers)
+}
+
+/// Prints each answer by itself.
+pub fn print_each_answer(rt: &HostRuntime, answers: &Answers<'_>) -> Result<(), Error> {
+    for answer in &answers.answers {
+        let text = AnswerText(&answers.list, answer);
+        println!(rt; "{text}")?;
+    }
+    Ok(())
 }
 
 /// Prints the document of answers.
@@ -105,13 +114,4 @@ pub fn print_answers_document(rt: &HostRuntime, answers: &Answers<'_>) -> Result
     };
     let text = answers_json(rt.alloc(), &file, &answers.answers)?;
     print_line(rt, &text)
-}
-
-/// Prints the answer of a package to which nothing leads.
-pub fn print_nothing(rt: &HostRuntime, graph: &Graph) -> Result<(), Error> {
-    if let Some(package) = graph.node_weight(NodeIndex::new(0)) {
-        let answer = Answer::Nothing(package);
-        println!(rt; "{answer}")?;
-    }
-    Ok(())
 }

@@ -191,7 +191,7 @@ fn value_at<'a>(
         ≡ get (texts_of metadata.now.entries) (key_from «package».now source.now)) }
     ensures err { IsOkUnless result Memory }
 {
-    let key = key_from(alloc, package, source)?;
+    let key = checksum_key(alloc, package, source)?;
     Ok(value_of(metadata, &key))
 }
 
@@ -201,8 +201,17 @@ fn value_of<'a>(metadata: &'a Metadata, key: &MetadataKey) -> Option<&'a Metadat
     metadata.get(key)
 }
 
-// The key of the checksum of a package from this source, without the commit.
-fn key_from(alloc: Global, package: &Package, source: &SourceId) -> Result<MetadataKey>
+/// The key in the metadata of V1 at which Cargo has the checksum of a package from this source: its
+/// name, its version and the source without the commit.
+///
+/// # Errors
+///
+/// `Memory`.
+///
+/// ```
+/// let key = checksum_key(alloc, package, source)?;
+/// ```
+pub fn checksum_key(alloc: Global, package: &Package, source: &SourceId) -> Result<MetadataKey>
     ensures ok { IfOk result (λ key. key ≡ key_from «package».now source.now) }
     ensures err { IsOkUnless result Memory }
 {

@@ -131,12 +131,7 @@ fn cmp_versions(a: Option<&Version>, b: Option<&Version>) -> Ordering
     ensures { result ≡ option_cmp version_cmp
         (option_map (λ v. parts_of v.now) a.entry) (option_map (λ v. parts_of v.now) b.entry) }
 {
-    match (a, b) {
-        (None, None) => Ordering::Equal,
-        (None, Some(_)) => Ordering::Less,
-        (Some(_), None) => Ordering::Greater,
-        (Some(a), Some(b)) => a.cmp(b),
-    }
+    a.cmp(&b)
 }
 
 // An absent source is before a present one.
@@ -144,10 +139,5 @@ fn cmp_sources(a: Option<&SourceId>, b: Option<&SourceId>) -> Ordering
     ensures { result ≡ option_cmp source_cmp
         (option_map (λ s. s.now) a.entry) (option_map (λ s. s.now) b.entry) }
 {
-    match (a, b) {
-        (None, None) => Ordering::Equal,
-        (None, Some(_)) => Ordering::Less,
-        (Some(_), None) => Ordering::Greater,
-        (Some(a), Some(b)) => a.cmp(b),
-    }
+    a.cmp(&b)
 }

@@ -5,6 +5,7 @@ ghost use Rattle.std.specs.Prelude.{string_bytes};
 ghost use Rattle.std.specs.Option.{option_cmp};
 ghost use Rattle.std.specs.Ordering.{nat_cmp};
 ghost use Rattle.std.specs.Cmp.Lexicographic.{slice_cmp};
+ghost use Rattle.cargo_lock_parts.specs.Source as spec;
 ghost use Rattle.cargo_lock_parts.specs.Source.{kind_of, git_reference_of};
 ghost use Rattle.cargo_lock_parts.specs.declared.error.Error.TheVariants.{Memory};
 
@@ -410,17 +411,26 @@ impl SourceId {
     }
 }
 
+/// Whether there is a source, and it is a registry.
+///
+/// ```
+/// let is_checked = is_of_registry(&package.source) && package.checksum.is_some();
+/// ```
+pub fn is_of_registry(source: &Option<SourceId>) -> bool
+    ensures { result ≡ spec.is_of_registry source.now }
+{
+    match source {
+        Some(source) => source.is_registry(),
+        None => false,
+    }
+}
+
 // An absent text is before a present one.
 fn cmp_texts(a: Option<&str>, b: Option<&str>) -> Ordering
     ensures { result
         ≡ option_cmp (slice_cmp nat_cmp) (option_copied a.entry) (option_copied b.entry) }
 {
-    match (a, b) {
-        (None, None) => Ordering::Equal,
-        (None, Some(_)) => Ordering::Less,
-        (Some(_), None) => Ordering::Greater,
-        (Some(a), Some(b)) => a.cmp(b),
-    }
+    a.cmp(&b)
 }
 
 impl Hash for SourceId {

@@ -6,8 +6,8 @@ use Rattle.cli_support.proofs.Writes.{if_ok_weaken}
 use Rattle.cli.proofs.Subcommand.{pairs-by-parts}
 use Rattle.cli.proofs.dispatch.Goals as goal
 
-pub returns-in-Some-command_named : goal.returns-in-Some-command_named
-returns-in-Some-command_named g c =
+pub returns-in-Some-command_named-clause-follows : goal.returns-in-Some-command_named-clause-follows
+returns-in-Some-command_named-clause-follows g c =
     let found = found_of c.in-Some.options.now in
     let named = pairs-by-parts _ _ _ c.in-Some.name.now (rows_of found) c.in-Some.ensures.name c.in-Some.ensures.rows in
     if_ok_weaken c.follow.result _ _ (λ status follows. record {
@@ -15,4 +15,4 @@ returns-in-Some-command_named g c =
       found = found;
       named = subst (λ (name : List ℕ). subcommand_rows_of c.args.matches.now ≡ Some (name, rows_of found)) c.in-Some-command_named.ensures named;
       follows = follows;
-    }) c.follow.ensures
+    }) c.follow.ensures.follows

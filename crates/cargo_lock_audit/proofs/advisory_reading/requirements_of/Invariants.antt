@@ -1,7 +1,7 @@
 use Rattle.std.proofs.Common.{◌≡◌, drop}
 use Rattle.toml.specs.View.{items_view}
 use Rattle.cargo_lock_audit.specs.AdvisoryReading.{requirement_in}
-use Rattle.cargo_lock_audit.specs.Values.{read_all}
+use Rattle.toml_fields.specs.Fields.{read_all}
 use Rattle.cargo_lock_audit.proofs.Walk.{after}
 use Rattle.cargo_lock_audit.proofs.advisory_reading.requirements_of.Given as goal
 

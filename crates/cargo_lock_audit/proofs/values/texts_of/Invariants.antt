@@ -1,6 +1,6 @@
 use Rattle.std.proofs.Common.{◌≡◌, drop}
 use Rattle.toml.specs.View.{items_view}
-use Rattle.cargo_lock_audit.specs.Values.{read_all, text_in}
+use Rattle.toml_fields.specs.Fields.{read_all, text_in}
 use Rattle.cargo_lock_audit.specs.Texts.{bytes_of_texts}
 use Rattle.cargo_lock_audit.proofs.Walk.{after}
 use Rattle.cargo_lock_audit.proofs.values.texts_of.Given as goal

@@ -7,7 +7,7 @@ use Rattle.cargo_lock_c.proofs.tree.cargo_lock_tree.Goals as goal
 pub returns-in-Ok-clause-tree : goal.returns-in-Ok-clause-tree
 returns-in-Ok-clause-tree c =
     let same : c.as_slice.result.now ≡ c.in-Ok.drawing.items = search rules in
-    let told : IsTreeText c.args.text.now c.args.number (cond c.args.inverted Incoming Outgoing) c.args.exact c.as_slice.result.now = rw (same, ← c.direction.ensures, ← c.new-node.ensures) c.in-Ok.ensures.ok in
+    let told : IsTreeText c.args.text.now c.args.number (cond c.args.inverted Incoming Outgoing) c.args.exact c.as_slice.result.now = rw (same, ← c.of_tree.ensures, ← c.new-node.ensures) c.in-Ok.ensures.ok in
     handed-answer (IsTreeText c.args.text.now c.args.number (cond c.args.inverted Incoming Outgoing) c.args.exact) c.as_slice.result.now _ _ _ _ _
     told c.hand_out.ensures.handed
 

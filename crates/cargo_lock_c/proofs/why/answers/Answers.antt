@@ -1,18 +1,18 @@
-use Rattle.std.proofs.Common.{◌≡◌, ◌≤◌, ◌⊎◌, rules, string_bytes}
-use Rattle.cargo_lock_c.specs.Documents.{FitsNone, IsWhyOf}
+use Rattle.std.proofs.Common.{◌≡◌, ◌≤◌, ◌⊎◌}
+use Rattle.cargo_lock_c.specs.Documents.{FitsNone}
 use Rattle.cargo_lock_c.specs.Graph.{IsUnresolvedText}
 use Rattle.cargo_lock_c.specs.Statuses.{status_of}
 use Rattle.cargo_lock_c.specs.Texts.{RefusesText}
-use Rattle.cargo_lock_c.proofs.GraphTexts.{told-of-graph, unresolved-text}
+use Rattle.cargo_lock_c.proofs.GraphTexts.{unresolved-text}
 use Rattle.cargo_lock_c.proofs.Refusals.{refusal-passed}
 use Rattle.cargo_lock_c.proofs.Unanswered.{SaysOfSpec, no-answer}
 use Rattle.cargo_lock_c.proofs.why.answers.Goals as goal
 
-pub returns-in_err-tree-clause-unresolved : goal.returns-in_err-tree-clause-unresolved
-returns-in_err-tree-clause-unresolved c =
-    let refusal = c.in_err-tree.field-0.0 in
-    refusal-passed (λ refusal. status_of refusal ≡ 7 → IsUnresolvedText c.args.bytes.now) c.from_residual-in_err-tree.result refusal c.from_residual-in_err-tree.ensures.1
-    (unresolved-text c.args.bytes.now c.in_ok-lockfile.lockfile refusal c.in_ok-lockfile.ensures.ok c.in_err-tree.ensures.err)
+pub returns-in_err-graph-clause-unresolved : goal.returns-in_err-graph-clause-unresolved
+returns-in_err-graph-clause-unresolved c =
+    let refusal = c.in_err-graph.field-0.0 in
+    refusal-passed (λ refusal. status_of refusal ≡ 7 → IsUnresolvedText c.args.bytes.now) c.from_residual-in_err-graph.result refusal c.from_residual-in_err-graph.ensures.1
+    (unresolved-text c.args.bytes.now c.in_ok-lockfile.lockfile refusal c.in_ok-lockfile.ensures.ok c.in_err-graph.ensures.err)
 
 pub returns-in_err-answers-clause-unresolved : goal.returns-in_err-answers-clause-unresolved
 returns-in_err-answers-clause-unresolved c =
@@ -43,7 +43,10 @@ returns-in_err-answers-clause-kind c =
     says.kind
 
 pub returns-clause-ok : goal.returns-clause-ok
-returns-clause-ok c =
-    let graph : c.graph.result.now ≡ c.in_ok-tree.tree.graph = search rules in
-    told-of-graph (λ l g. IsWhyOf l g c.args.spec.now c.args.all (string_bytes c.in_ok-answers.answers)) c.args.bytes.now c.in_ok-lockfile.lockfile c.in_ok-tree.tree.graph c.graph.result.now
-    c.in_ok-lockfile.ensures.ok c.in_ok-tree.ensures.packages c.in_ok-tree.ensures.edges graph c.in_ok-answers.ensures.ok
+returns-clause-ok c = (
+  c.in_ok-lockfile.lockfile,
+  c.in_ok-graph.graph,
+  c.in_ok-lockfile.ensures.ok,
+  c.in_ok-graph.ensures.ok,
+  c.in_ok-answers.ensures.ok,
+)

@@ -1,5 +1,8 @@
 use Rattle.std.proofs.Common.{◌≡◌, ◌∙◌, ◌<◌, ℕ, List, All, ap, arith, inr, length, refl, subst, sym}
 use Rattle.std.proofs.lemmas.Bool.{eqb-true}
+use Rattle.std.proofs.lemmas.Slice.Zip.{AllZip-long}
+use Rattle.cargo_lock_graph.specs.Edges.{GraphData}
+use Rattle.cargo_lock_edges.specs.OwnGraph.{IsAlikeButForWords}
 use Rattle.lists.proofs.Places.{places-within}
 use Rattle.cargo_lock_query.specs.Spec.{SpecFits}
 use Rattle.cargo_lock_encoding.specs.Lockfiles.{LockfileData}
@@ -20,7 +23,10 @@ returns-then-is_empty-clause-err c =
 
 pub about-requires : goal.about-requires
 about-requires c =
+    let l : LockfileData = c.args.lockfile.now in
+    let graph : GraphData = c.args.graph.now in
     let nodes : List ℕ = c.in_ok-nodes.nodes.items in
-    let same : c.as_slice.result.now ≡ c.args.graph.now.packages = c.as_slice.ensures.value ∙ ap (λ (l : LockfileData). l.packages) c.lockfile.view_is ∙ c.requires in
-    subst (λ (ks : List ℕ). All (λ k. k < length c.args.graph.now.packages) ks) (sym c.deref.ensures.value)
-    (subst (λ (ps : List PackageData). All (λ k. k < length ps) nodes) same (places-within _ _ nodes c.in_ok-nodes.ensures))
+    let same : c.as_slice.result.now ≡ l.packages = c.as_slice.ensures.value ∙ ap (λ (x : LockfileData). x.packages) c.lockfile.view_is in
+    let long : length graph.packages ≡ length l.packages = AllZip-long IsAlikeButForWords l.packages graph.packages c.requires.nodes in
+    subst (λ (ks : List ℕ). All (λ k. k < length graph.packages) ks) (sym c.deref.ensures.value)
+    (subst (λ n. All (λ k. k < n) nodes) (ap length same ∙ sym long) (places-within _ _ nodes c.in_ok-nodes.ensures))

@@ -1,9 +1,8 @@
 use Rattle.std.proofs.Common.{◌≡◌, ◌++◌, map, take}
 use Rattle.std.specs.List.{filter_map}
-use Rattle.cargo_lock_check.specs.Finding.{lockfile_finding_of}
-use Rattle.cargo_lock_check.specs.Findings.{dependency_at, dependency_finding_by}
+use Rattle.cargo_lock_check.specs.Findings.{dependency_at, dependency_finding_by, placed_finding_of}
 use Rattle.cargo_lock_check.proofs.findings.add_dependencies.Given as goal
 
 abbrev pub invariant-loop-place : goal.invariant-loop-place
 invariant-loop-place l =
-    map lockfile_finding_of l.all.items ≡ map lockfile_finding_of l.fn.all.items ++ filter_map (dependency_at (dependency_finding_by l.flaw) l.packages) (take l.place-index l.places)
+    map placed_finding_of l.all.items ≡ map placed_finding_of l.fn.all.items ++ filter_map (dependency_at (dependency_finding_by l.flaw) l.packages) (take l.place-index l.places)

@@ -1,8 +1,7 @@
 use Rattle.std.proofs.Common.{◌≡◌, ◌++◌, map, take}
 use Rattle.std.specs.List.{filter_map}
-use Rattle.cargo_lock_check.specs.Finding.{lockfile_finding_of}
-use Rattle.cargo_lock_check.specs.Findings.{misplaced_at}
+use Rattle.cargo_lock_check.specs.Findings.{misplaced_at, placed_finding_of}
 use Rattle.cargo_lock_check.proofs.findings.add_misplaced.Given as goal
 
 abbrev pub invariant-loop-place : goal.invariant-loop-place
-invariant-loop-place l = map lockfile_finding_of l.all.items ≡ map lockfile_finding_of l.fn.all.items ++ filter_map (misplaced_at l.packages) (take l.place-index l.places)
+invariant-loop-place l = map placed_finding_of l.all.items ≡ map placed_finding_of l.fn.all.items ++ filter_map (misplaced_at l.packages) (take l.place-index l.places)

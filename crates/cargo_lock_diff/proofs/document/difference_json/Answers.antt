@@ -1,11 +1,14 @@
-use Rattle.std.proofs.Common.{arith, map, sym}
+use Rattle.std.proofs.Common.{sym}
+use Rattle.std.proofs.lemmas.Simd.{map-map}
 use Rattle.cargo_lock_diff.specs.Change.{change_of}
-use Rattle.cargo_lock_diff.proofs.DocumentDepth.{difference-depth}
+use Rattle.cargo_lock_diff.specs.Document.{change_json, change_line_in, lined_change_json}
+use Rattle.cargo_lock_diff.specs.declared.change.Change.{Change}
+use Rattle.cargo_lock_location.proofs.Items.{items-located}
 use Rattle.cargo_lock_diff.proofs.document.difference_json.Goals as goal
 
-pub json_line-requires : goal.json_line-requires
-json_line-requires c =
-    omega (arith, difference-depth c.args.old.now c.args.new.now c.of-summary.result (map change_of c.args.changes.now))
-
 pub returns : goal.returns
-returns c = rw (sym c.of-summary.ensures) c.json_line.ensures
+returns c =
+    let lines = c.args.lines.now in
+    let items = items-located (λ line (x : Change). change_json line (change_of x))
+    (λ (x : Change). change_line_in lines (change_of x)) c.in_ok-located.located.items c.args.changes.now c.in_ok-located.ensures in
+    rw (map-map (lined_change_json lines) change_of c.args.changes.now, sym items, sym c.of-summary.ensures, sym c.deref.ensures.value) c.difference_document.ensures

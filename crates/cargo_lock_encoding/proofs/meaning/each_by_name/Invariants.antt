@@ -1,6 +1,6 @@
 use Rattle.std.proofs.Common.{◌≡◌, drop, map}
 use Rattle.cargo_lock_encoding.specs.Meaning.{package_of}
-use Rattle.cargo_lock_references.specs.Optional.{map_all}
+use Rattle.cargo_lock_parts.specs.Optional.{map_all}
 use Rattle.cargo_lock_references.specs.Records.{encoded_identity}
 use Rattle.cargo_lock_references.proofs.Walk.{after}
 use Rattle.cargo_lock_encoding.proofs.meaning.each_by_name.Given as goal

@@ -1,7 +1,7 @@
 use Rattle.std.proofs.Common.{◌≡◌, [], drop}
 use Rattle.cargo_lock_references.specs.declared.version.ResolveVersion.TheVariants.{V1}
 use Rattle.cargo_lock_encoding.specs.Meaning.{listed_package}
-use Rattle.cargo_lock_references.specs.Optional.{map_all}
+use Rattle.cargo_lock_parts.specs.Optional.{map_all}
 use Rattle.cargo_lock_references.proofs.Walk.{after}
 use Rattle.cargo_lock_encoding.proofs.meaning.each_in_full.Given as goal
 

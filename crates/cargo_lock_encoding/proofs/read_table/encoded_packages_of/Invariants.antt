@@ -1,7 +1,8 @@
 use Rattle.std.proofs.Common.{◌≡◌, drop}
 use Rattle.toml.specs.View.{items_view}
 use Rattle.cargo_lock_encoding.specs.LongTexts.{IsLongPackage, SomeItem}
-use Rattle.cargo_lock_encoding.specs.TableReading.{read_all, encoded_package_in}
+use Rattle.toml_fields.specs.Fields.{read_all}
+use Rattle.cargo_lock_encoding.specs.TableReading.{encoded_package_in}
 use Rattle.cargo_lock_references.proofs.Walk.{after}
 use Rattle.cargo_lock_encoding.proofs.read_table.encoded_packages_of.Given as goal
 

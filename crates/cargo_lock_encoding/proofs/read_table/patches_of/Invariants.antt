@@ -1,7 +1,8 @@
 use Rattle.std.proofs.Common.{◌≡◌, drop}
 use Rattle.toml.specs.View.{items_view}
 use Rattle.cargo_lock_encoding.specs.LongTexts.{IsLongPatch, SomeItem}
-use Rattle.cargo_lock_encoding.specs.TableReading.{read_all, unused_patch_in}
+use Rattle.toml_fields.specs.Fields.{read_all}
+use Rattle.cargo_lock_encoding.specs.TableReading.{unused_patch_in}
 use Rattle.cargo_lock_references.proofs.Walk.{after}
 use Rattle.cargo_lock_encoding.proofs.read_table.patches_of.Given as goal
 

@@ -1,7 +1,8 @@
 use Rattle.std.proofs.Common.{◌≡◌, drop}
 use Rattle.toml.specs.View.{items_view}
 use Rattle.cargo_lock_encoding.specs.LongTexts.{IsLongText, SomeItem}
-use Rattle.cargo_lock_encoding.specs.TableReading.{read_all, reference_in}
+use Rattle.toml_fields.specs.Fields.{read_all}
+use Rattle.cargo_lock_encoding.specs.TableReading.{reference_in}
 use Rattle.cargo_lock_references.proofs.Walk.{after}
 use Rattle.cargo_lock_encoding.proofs.read_table.references_of.Given as goal
 

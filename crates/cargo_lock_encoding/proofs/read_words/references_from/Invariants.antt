@@ -1,5 +1,5 @@
 use Rattle.std.proofs.Common.{◌≡◌, drop, map}
-use Rattle.cargo_lock_references.specs.Optional.{map_all}
+use Rattle.cargo_lock_parts.specs.Optional.{map_all}
 use Rattle.cargo_lock_references.specs.Reference.{reference_of}
 use Rattle.cargo_lock_references.proofs.Walk.{after}
 use Rattle.cargo_lock_encoding.proofs.read_words.references_from.Given as goal

@@ -1,5 +1,5 @@
 use Rattle.std.proofs.Common.{◌≡◌, drop}
-use Rattle.cargo_lock_references.specs.Optional.{map_all}
+use Rattle.cargo_lock_parts.specs.Optional.{map_all}
 use Rattle.cargo_lock_references.proofs.Walk.{after}
 use Rattle.cargo_lock_encoding.specs.ResolvedWords.{bare_package}
 use Rattle.cargo_lock_encoding.proofs.resolve_words.bare_packages.Given as goal

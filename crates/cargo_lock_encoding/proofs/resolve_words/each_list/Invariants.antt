@@ -1,6 +1,6 @@
 use Rattle.std.proofs.Common.{◌≡◌, drop, map}
 use Rattle.cargo_lock_parts.specs.Identity.{identity_of}
-use Rattle.cargo_lock_references.specs.Optional.{map_all}
+use Rattle.cargo_lock_parts.specs.Optional.{map_all}
 use Rattle.cargo_lock_references.proofs.Walk.{after}
 use Rattle.cargo_lock_encoding.specs.ResolvedWords.{resolved_words}
 use Rattle.cargo_lock_encoding.proofs.resolve_words.each_list.Given as goal

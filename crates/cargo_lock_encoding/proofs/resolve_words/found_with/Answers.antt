@@ -1,6 +1,6 @@
 use Rattle.std.proofs.Common.{◌∙◌, ap, sym}
 use Rattle.cargo_lock_lines.specs.TableOfWords.{LinedLockfile}
-use Rattle.cargo_lock_references.specs.Optional.{map_all}
+use Rattle.cargo_lock_parts.specs.Optional.{map_all}
 use Rattle.cargo_lock_references.specs.Records.{texts_of}
 use Rattle.cargo_lock_encoding.specs.ResolvedWords.{resolved_packages}
 use Rattle.cargo_lock_encoding.specs.WordsReading.{identity_from}

@@ -1,4 +1,4 @@
-use Rattle.cargo_lock_flaws.proofs.Grouping.{lost-from}
+use Rattle.cargo_lock_edges.proofs.Grouping.{lost-from}
 use Rattle.cargo_lock_flaws.proofs.lost.is_lost.Goals as goal
 
 pub returns : goal.returns

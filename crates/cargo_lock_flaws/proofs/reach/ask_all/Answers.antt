@@ -1,6 +1,6 @@
 use Rattle.std.proofs.Common.{◌∙◌}
 use Rattle.lists.proofs.ReachedPlaces.{each-all, each-next, each-none}
-use Rattle.cargo_lock_flaws.specs.Reach.{IsOneOfBest}
+use Rattle.cargo_lock_edges.specs.Best.{IsOneOfBest}
 use Rattle.cargo_lock_flaws.proofs.reach.ask_all.Goals as goal
 
 pub loop-dependency-init : goal.loop-dependency-init

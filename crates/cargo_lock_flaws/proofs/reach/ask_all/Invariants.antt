@@ -1,7 +1,7 @@
 use Rattle.std.proofs.Common.{take}
 use Rattle.lists.specs.Chains.{OneLeadsTo}
 use Rattle.lists.specs.Reach.{HasReached}
-use Rattle.cargo_lock_flaws.specs.Reach.{IsOneOfBest}
+use Rattle.cargo_lock_edges.specs.Best.{IsOneOfBest}
 use Rattle.cargo_lock_flaws.specs.Search.{AreGroupsAsked}
 use Rattle.cargo_lock_flaws.proofs.reach.ask_all.Given as goal
 

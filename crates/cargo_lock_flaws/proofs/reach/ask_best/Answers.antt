@@ -1,5 +1,5 @@
 use Rattle.std.proofs.Common.{◌≡◌, arith, subst}
-use Rattle.cargo_lock_flaws.specs.Groups.{IsBest}
+use Rattle.cargo_lock_edges.specs.Groups.{IsBest}
 use Rattle.cargo_lock_flaws.proofs.Asking.{asked-kept}
 use Rattle.cargo_lock_flaws.proofs.Searching.{best-of, one-reached, one-within}
 use Rattle.cargo_lock_flaws.proofs.reach.ask_best.Goals as goal

@@ -46,13 +46,13 @@ returns-clause-reached c =
     let rank = c.args.best.rank in
     let places = c.places-place-items.result.now in
     matches-reached packages d rank places c.args.search.now c.loop-place.search
-    (λ k f. subst (λ (ks : List ℕ). Contains ks k) (sym c.places-place-items.ensures)
+    (λ k f. subst (λ (ks : List ℕ). Contains ks k) (sym c.places-place-items.ensures.are)
     (c.requires.all k f))
     (each-all (IsMatchAt packages d rank) places c.loop-place.place-index c.args.search.now
     c.loop-place.search c.loop-place-test.false c.loop-place.invariant.reached)
 
 pub returns-clause-whole : goal.returns-clause-whole
 returns-clause-whole c = λ e.
-    subst (λ (ks : List ℕ). AreReached ks c.loop-place.search) c.places-place-items.ensures
+    subst (λ (ks : List ℕ). AreReached ks c.loop-place.search) c.places-place-items.ensures.are
     (reached-whole c.places-place-items.result.now c.loop-place.place-index c.loop-place.search
     c.loop-place-test.false (c.loop-place.invariant.whole e))

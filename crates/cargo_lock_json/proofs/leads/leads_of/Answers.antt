@@ -4,5 +4,5 @@ use Rattle.cargo_lock_json.proofs.leads.leads_of.Goals as goal
 
 pub loop-dependency-preserved : goal.loop-dependency-preserved
 loop-dependency-preserved c =
-    zip-next (IsLead c.args.candidates.now) c.args.dependencies.now c.loop-dependency.dependency-index c.dependency-item.result c.loop-dependency.leads.items c.push.new.self.items c.lead.result
+    zip-next (IsLead c.args.groups.now.packages) c.args.dependencies.now c.loop-dependency.dependency-index c.dependency-item.result c.loop-dependency.leads.items c.push.new.self.items c.lead.result
     c.loop-dependency-test.true c.dependency-item.is c.loop-dependency.invariant c.lead.ensures c.in_ok-push.ensures.items

@@ -26,10 +26,10 @@ returns-clause-ok c =
       content = here;
       ascending = c.in_ok-dependencies.ensures.ascending;
       found = targets.found;
-      dependencies = λ alone once n. (
+      dependencies = λ once n. (
         λ h. let r = (c.in_ok-dependencies.ensures.are n).0 h in
-            (r.0, (targets.are alone once r.0).0 (subst (λ (ks : List ℕ). Contains ks r.0) c.deref.ensures.value r.1), r.2),
-        λ h. (c.in_ok-dependencies.ensures.are n).1 (h.0, subst (λ (ks : List ℕ). Contains ks h.0) (sym c.deref.ensures.value) ((targets.are alone once h.0).1 h.1), h.2),
+            (r.0, (targets.are once r.0).0 (subst (λ (ks : List ℕ). Contains ks r.0) c.deref.ensures.value r.1), r.2),
+        λ h. (c.in_ok-dependencies.ensures.are n).1 (h.0, subst (λ (ks : List ℕ). Contains ks h.0) (sym c.deref.ensures.value) ((targets.are once h.0).1 h.1), h.2),
       );
       replacement =
           let r : Replaced = c.in_ok-replaced.replaced in

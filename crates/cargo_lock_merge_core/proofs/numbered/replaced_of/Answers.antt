@@ -14,7 +14,7 @@ returns-in-Some-2-clause-ok c =
     let i : Identity = c.in-Some.identity in
     let k = c.in-Some-2.at in
     let stated : IsStatedAt packages i k = subst (λ (o : Option ℕ). MatchOption o ((j : ℕ) → ¬ IsStatedAt packages i j) (IsStatedAt packages i)) c.in-Some-2.is c.in_ok-at.ensures.ok in
-    let low = slice_get_within packages k stated.one stated.here in
+    let low = slice_get_within packages k stated.0 stated.1 in
     let fits = c.requires.fits in
     subst (λ (r : Option Identity). HasReplacement places c.args.offset packages r (Some c.number.result))
     (sym c.in-Some.is ∙ ap (λ (p : PackageData). p.replace) c.«package».view_is)

@@ -5,8 +5,8 @@ use Rattle.cli.specs.Merge.{PrintsMergeOf}
 use Rattle.cli_support.specs.Destination.{TakesOutput}
 use Rattle.cli.proofs.merge.put_merge.Goals as goal
 
-pub returns-in-Merged : goal.returns-in-Merged
-returns-in-Merged g c =
+pub returns-in-Merged-clause-printed : goal.returns-in-Merged-clause-printed
+returns-in-Merged-clause-printed g c =
     let output = first_value (found_of c.args.options.now) (codes "output") in
     let old = g.W.Write.contents c.args.out.now in
     let new = g.W.Write.contents c.put_own_out.new.out in

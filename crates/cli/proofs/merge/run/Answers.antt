@@ -1,8 +1,8 @@
 use Rattle.cli_support.proofs.Writes.{if_ok_weaken}
 use Rattle.cli.proofs.merge.run.Goals as goal
 
-pub returns : goal.returns
-returns g c =
+pub returns-clause-printed : goal.returns-clause-printed
+returns-clause-printed g c =
     if_ok_weaken c.put_merge.result _ _ (λ ended printed. (
       c.in_ok-three.three.base,
       c.in_ok-three.three.ours,
@@ -13,4 +13,4 @@ returns g c =
       c.in_ok-three.ensures.theirs,
       c.in_ok-merge.ensures,
       printed,
-    )) c.put_merge.ensures
+    )) c.put_merge.ensures.printed

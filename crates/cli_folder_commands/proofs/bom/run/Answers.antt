@@ -14,7 +14,7 @@ returns g c =
       c.in_ok-lockfile.lockfile,
       c.in_ok-time.time,
       line,
-      c.in_ok-lockfile.ensures,
+      c.in_ok-lockfile.ensures.meant,
       c.in_ok-time.ensures,
       c.in_ok-text.ensures,
       subst (λ (text : List ℕ). TakesOutput output text old new) c.as_str.ensures.value taken,

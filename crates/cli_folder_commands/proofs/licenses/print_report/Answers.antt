@@ -7,7 +7,7 @@ returns g c = (
   map judged_of c.in_ok-report.report.judged.items,
   c.in_ok-report.ensures.judged,
   rw (sym c.in_ok-report.ensures.unmet) (record {
-    printed = c.in_ok-print_answer.ensures;
+    printed = c.in_ok-print_findings.ensures;
     some = λ h. c.status_of.ensures.found (ap not (c.has_finding.ensures ∙ h));
     none = λ h. c.status_of.ensures.quiet (ap not (c.has_finding.ensures ∙ h));
   }),

@@ -5,7 +5,7 @@ use Rattle.cli_input.proofs.load.named_graph.Goals as goal
 pub returns : goal.returns
 returns g c = (
   c.in_ok-lockfile.lockfile,
-  c.in_ok-lockfile.ensures,
+  c.in_ok-lockfile.ensures.meant,
   ap (λ (l : LockfileData). l.version) (sym c.lockfile.view_is),
-  c.in_ok-graph.ensures,
+  rw (sym c.lockfile.view_is, sym c.deref.ensures.value) c.in_ok-graph.ensures.ok,
 )

@@ -24,7 +24,7 @@ returns g c =
     let found = found_of c.args.options.now in
     let graph : GraphData = c.args.graph.now in
     let flag = c.get_flag.result in
-    let direction : EdgeDirection = c.direction-direction.result in
+    let direction : EdgeDirection = c.of_tree-direction.result in
     let starts : List ℕ = c.in_ok-starts.starts.items in
     let nodes : List ℕ = c.in_ok-picture.picture.nodes.items in
     let arrows : List Arrow = c.in_ok-picture.picture.arrows.items in
@@ -35,7 +35,7 @@ returns g c =
       arrows = arrows;
       inverted = flag-said found (codes "invert") flag c.get_flag.ensures.none c.get_flag.ensures.value c.get_flag.ensures.other;
       begun = c.in_ok-starts.ensures.begun;
-      picture = subst (λ (d : EdgeDirection). IsPicture graph d starts nodes arrows) c.direction-direction.ensures
+      picture = subst (λ (d : EdgeDirection). IsPicture graph d starts nodes arrows) c.of_tree-direction.ensures
           (subst (λ (ks : List ℕ). IsPicture graph direction ks nodes arrows) c.deref.ensures.value (record { reached = c.in_ok-picture.ensures.nodes; among = c.in_ok-picture.ensures.arrows }));
       printed = subst (λ (t : Target). Appends old new (diagram_text t graph.packages nodes arrows)) c.target.ensures drawn;
     }) c.put_picture.ensures

@@ -19,7 +19,7 @@ returns g c =
       inverted = flag-said found (codes "invert") c.get_flag.result c.get_flag.ensures.none c.get_flag.ensures.value c.get_flag.ensures.other;
       exact = flag-said found (codes "exact") is_exact c.get_flag-2.ensures.none c.get_flag-2.ensures.value c.get_flag-2.ensures.other;
       from = c.in_ok-starts.ensures.are;
-      drawn = subst (λ (d : EdgeDirection). AreDrawn is_exact d graph c.in_ok-starts.starts.items trees.0) c.direction.ensures
-          (subst (λ (ns : List ℕ). AreDrawn is_exact c.direction.result graph ns trees.0) c.as_slice.ensures.value trees.1);
+      drawn = subst (λ (d : EdgeDirection). AreDrawn is_exact d graph c.in_ok-starts.starts.items trees.0) c.of_tree.ensures
+          (subst (λ (ns : List ℕ). AreDrawn is_exact c.of_tree.result graph ns trees.0) c.as_slice.ensures.value trees.1);
       printed = trees.2;
     }) c.print_trees.ensures

@@ -16,8 +16,8 @@ about-requires c =
     subst (λ (ks : List ℕ). All (λ k. k < length c.args.graph.now.packages) ks) (sym c.deref.ensures.value)
     (subst (λ (ps : List PackageData). All (λ k. k < length ps) nodes) c.packages.ensures (places-within _ _ nodes c.in_ok-nodes.ensures.fitting))
 
-pub returns : goal.returns
-returns c =
+pub returns-clause-answers : goal.returns-clause-answers
+returns-clause-answers c =
     let found = found_of c.args.options.now in
     let graph = c.args.graph.now in
     let nodes : List ℕ = c.in_ok-nodes.nodes.items in
@@ -29,5 +29,5 @@ returns c =
           (subst (λ (spec : List ℕ). IsPlaces (SpecFits spec c.packages.result.now) (length c.packages.result.now) nodes) c.given_spec.ensures c.in_ok-nodes.ensures.fitting);
       some = c.in_ok-nodes.ensures.some;
       each = flag-said found (codes "all") all c.get_flag.ensures.none c.get_flag.ensures.value c.get_flag.ensures.other;
-      answered = subst (λ (ks : List ℕ). AreAnswers all graph ks (map answer_of c.in_ok-answers.answers.answers.items)) c.deref.ensures.value c.in_ok-answers.ensures;
+      answered = subst (λ (ks : List ℕ). AreAnswers all graph ks (map answer_of c.in_ok-answers.answers.answers.items)) c.deref.ensures.value c.in_ok-answers.ensures.answers;
     }

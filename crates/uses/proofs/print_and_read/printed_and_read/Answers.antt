@@ -1,4 +1,4 @@
-use Rattle.std.proofs.Common.{◌≡◌, subst, sym, ℕ, List, ◌∙◌}
+use Rattle.std.proofs.Common.{◌∙◌, subst, sym}
 use Rattle.cargo_lock_parts.specs.Error.{IsShort}
 use Rattle.cargo_lock.proofs.TextsRead.{means-back, memory-back, read-back, refused-back}
 use Rattle.uses.proofs.print_and_read.printed_and_read.Goals as goal

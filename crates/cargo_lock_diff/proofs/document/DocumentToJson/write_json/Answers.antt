@@ -1,6 +1,4 @@
-use Rattle.cargo_lock_diff.specs.Change.{change_of}
-use Rattle.cargo_lock_diff.specs.Document.{change_json, difference_document}
-use Rattle.printing.proofs.Arrays.{by_another}
+use Rattle.cargo_lock_diff.specs.Document.{difference_document}
 use Rattle.printing.proofs.Behind.{then}
 use Rattle.cargo_lock_diff.proofs.document.DocumentToJson.write_json.Goals as goal
 
@@ -10,5 +8,4 @@ returns c = then c.in_ok-begin_object.ensures
     (then c.in_ok-string_member.ensures (then c.in_ok-put_file.ensures
     (then c.in_ok-put_file-2.ensures (then c.in_ok-boolean_member.ensures
     (then c.in_ok-put_counts.ensures (then c.in_ok-key.ensures
-    (then (by_another change_json change_of _ c.in_ok-write_array.ensures)
-    c.end_object.ensures)))))))
+    (then c.in_ok-write_array.ensures c.end_object.ensures)))))))

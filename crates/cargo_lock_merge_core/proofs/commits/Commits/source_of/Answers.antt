@@ -4,7 +4,8 @@ use Rattle.cargo_lock_parts.specs.Identity.{PackageData}
 use Rattle.cargo_lock_parts.specs.SourceKey.{Key, key_of}
 use Rattle.cargo_lock_merge_core.specs.declared.commits.SourceCommits.{SourceCommits}
 use Rattle.cargo_lock_merge_core.specs.CommitMaps.{commit_if}
-use Rattle.cargo_lock_merge_core.specs.Commits.{AreCommits, key_without_commit}
+use Rattle.cargo_lock_edges.specs.Nearest.{key_without_commit}
+use Rattle.cargo_lock_merge_core.specs.Commits.{AreCommits}
 use Rattle.cargo_lock_merge_core.proofs.Merging.{bare-key}
 use Rattle.cargo_lock_merge_core.proofs.Putting.{git-key}
 use Rattle.cargo_lock_merge_core.proofs.commits.Commits.source_of.Goals as goal

@@ -8,4 +8,4 @@ use Rattle.cargo_lock_query.proofs.lines.NeedersDisplay.fmt.Given as goal
 
 abbrev pub invariant-loop-needer : goal.invariant-loop-needer
 invariant-loop-needer g l = IsPlainFormatter l.initial.f → HasWritten g.W.Write.write_str_gives l.initial.f
-    (flat_map needer_line (map (λ (p : Bor PackageData). p.now) (take l.needer-index l.needer-items))) l.f
+    (flat_map (needer_line l.list) (map (λ (p : Bor PackageData). p.now) (take l.needer-index l.needer-items))) l.f

@@ -1,0 +1,100 @@
+//! Findings, each with the place of its package, and at the line of that package.
+
+ghost use Rattle.std.specs.Prelude.{◌≡◌};
+ghost use Rattle.cargo_lock_check.specs.Finding.{lockfile_finding_of};
+ghost use Rattle.cargo_lock_check.specs.Findings.{found_at_place, found_nowhere, placed_finding_of};
+
+use crate::document::write_finding;
+use crate::finding::Finding;
+use cargo_lock_location::{Lined, PackageLines};
+use printing::JsonWriter;
+use std::alloc::AllocError;
+use std::fmt;
+
+/// A finding, and the place of the package at which it is found. `Display` writes its line.
+///
+/// ```
+/// for placed in findings.placed(rt.alloc())?.as_slice() {
+///     println!(rt; "{placed}")?;
+/// }
+/// ```
+#[derive(Clone, Copy)]
+pub struct PlacedFinding<'a> {
+    /// The place in the lockfile's list of packages: of two packages, that of the first. What is found
+    /// of no package has none, as that a format does not keep the lockfile.
+    pub place: Option<usize>,
+
+    /// The finding.
+    pub finding: Finding<'a>,
+}
+
+impl<'a> PlacedFinding<'a> {
+    // The finding at a place.
+    pub(crate) fn at(place: usize, finding: Finding<'a>) -> PlacedFinding<'a>
+        ensures { placed_finding_of result
+            ≡ found_at_place place (lockfile_finding_of finding.entry) }
+    {
+        PlacedFinding {
+            place: Some(place),
+            finding,
+        }
+    }
+
+    // A finding of no package.
+    pub(crate) fn nowhere(finding: Finding<'a>) -> PlacedFinding<'a>
+        ensures { placed_finding_of result ≡ found_nowhere (lockfile_finding_of finding.entry) }
+    {
+        PlacedFinding {
+            place: None,
+            finding,
+        }
+    }
+}
+
+impl fmt::Display for PlacedFinding<'_> {
+    ghost use Rattle.std.specs.Prelude.{Some};
+    ghost use Rattle.cargo_lock_check.specs.Finding.{lockfile_finding_of, lockfile_finding_line};
+
+    ghost output = { λ placed. Some (lockfile_finding_line (lockfile_finding_of placed.finding)) };
+
+    fn fmt<W: fmt::Write>(&self, f: &mut fmt::Formatter<W>) -> fmt::Result {
+        let finding = self.finding;
+        write!(f, "{finding}")
+    }
+}
+
+impl Lined for PlacedFinding<'_> {
+    ghost use Rattle.cargo_lock_check.specs.Document.{line_of_finding, lockfile_finding_json};
+    ghost use Rattle.cargo_lock_check.specs.Finding.{lockfile_finding_of};
+    ghost use Rattle.cargo_lock_check.specs.Findings.{placed_finding_of};
+
+    ghost line_in = { λ lines placed. line_of_finding lines (placed_finding_of placed) };
+
+    ghost json_at = { λ line placed.
+        lockfile_finding_json line (lockfile_finding_of placed.finding) };
+
+    fn line(&self, lines: &PackageLines<'_>) -> Option<usize> {
+        match self.finding {
+            Finding::OtherLine(line) => Some(line.number),
+            _ => self.line_of_place(lines),
+        }
+    }
+
+    fn write_json_at(&self, line: Option<usize>, out: &mut JsonWriter) -> Result<(), AllocError> {
+        write_finding(&self.finding, line, out)
+    }
+}
+
+impl<'a> PlacedFinding<'a> {
+    ghost use Rattle.cargo_lock_check.specs.Document.{line_of_place};
+
+    // The number of the line of the package at its place, where it is known.
+    fn line_of_place(&self, lines: &PackageLines<'_>) -> Option<usize>
+        ensures { result ≡ line_of_place lines.now.lines self.now.place }
+    {
+        match self.place {
+            Some(place) => lines.at(place),
+            None => None,
+        }
+    }
+}

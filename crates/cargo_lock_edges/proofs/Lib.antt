@@ -1,0 +1,14 @@
+pub mod GroupMatch
+pub mod GroupsAscend
+pub mod Grouping
+pub mod PinnedGroups
+pub mod OnlyOnes
+pub mod OwnWords
+pub mod WordGroups
+pub mod NearestPlaces
+pub mod LastPlaces
+pub mod LeadPlaces
+pub mod LeadsOnce
+pub mod OwnLaws
+pub mod TargetsFound
+pub mod SettledGraph

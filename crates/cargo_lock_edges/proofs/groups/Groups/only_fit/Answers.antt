@@ -1,0 +1,17 @@
+use Rattle.std.proofs.Common.{◌∙◌, sym}
+use Rattle.cargo_lock_edges.proofs.NearestPlaces.{nearest-only, target-only}
+use Rattle.cargo_lock_edges.proofs.OnlyOnes.{only-miss}
+use Rattle.cargo_lock_edges.proofs.groups.Groups.only_fit.Goals as goal
+
+pub returns-then-fits : goal.returns-then-fits
+returns-then-fits c =
+    let fits = sym c.fits.ensures ∙ c.if-fits.true in (
+      nearest-only c.args.self.now.packages c.args.dependency.now c.args.place c.requires.there
+          c.requires.only fits,
+      target-only c.args.self.now.packages c.args.dependency.now c.args.place c.requires.there
+          c.requires.only fits,
+    )
+
+pub returns-else-fits : goal.returns-else-fits
+returns-else-fits c = only-miss c.args.self.now.packages c.args.dependency.now c.args.place
+    c.requires.only (sym c.fits.ensures ∙ c.if-fits.false)

@@ -1,0 +1,10 @@
+pub mod Best
+pub mod Group
+pub mod Groups
+pub mod Likeness
+pub mod Nearest
+pub mod Words
+pub mod Leads
+pub mod OwnGraph
+pub mod Settled
+pub mod Laws

@@ -1,6 +1,0 @@
-use Rattle.std.proofs.Common.{◌≡◌, take}
-use Rattle.cargo_lock_graph.specs.Candidates.{versions_of}
-use Rattle.cargo_lock_graph.proofs.versions.places_of.Given as goal
-
-abbrev pub invariant-loop-place : goal.invariant-loop-place
-invariant-loop-place l = l.keys ≡ versions_of (take l.place l.packages)

@@ -1,0 +1,3 @@
+pub mod Lengths
+pub mod Limits
+pub mod Matched

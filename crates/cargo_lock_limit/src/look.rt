@@ -1,0 +1,51 @@
+//! A look at a text, before it is read.
+//!
+//! Each reference stands between quotation marks, and so does each version, which has none itself.
+//! So the versions that references match have no more bytes together than half of the marks, times
+//! the longest part of the text without one. It is a look alone, on which no promise rests:
+//! `reading` asks what was read.
+
+ghost use Rattle.std.specs.Prelude.{◌<◌, IfSome, length};
+
+/// Whether the versions that the references of a text match may have more bytes together than a
+/// limit. Of a lockfile that Cargo wrote they may not, unless it is a very large one.
+pub(crate) fn may_be_beyond(text: &str, limit: u32) -> bool {
+    let bytes = text.as_bytes();
+    match (limit as usize).checked_div(strings(bytes)) {
+        Some(longest) => has_part(bytes, longest.saturating_add(1)),
+        None => false,
+    }
+}
+
+// How many strings there can be, each between two quotation marks.
+fn strings(bytes: &[u8]) -> usize {
+    bytes
+        .iter()
+        .filter(|byte| is_quotation_mark(**byte))
+        .count()
+        / 2
+}
+
+// Whether some part of this length has no quotation mark.
+fn has_part(bytes: &[u8], size: usize) -> bool {
+    let mut rest = bytes;
+    while size <= rest.len() {
+        match last_mark(&rest[..size]) {
+            Some(place) => rest = &rest[place + 1..],
+            None => return true,
+        }
+    }
+    false
+}
+
+// The place of the last quotation mark.
+fn last_mark(bytes: &[u8]) -> Option<usize>
+    ensures { IfSome result (λ place. place < length bytes.now) }
+{
+    bytes.iter().rposition(|byte| is_quotation_mark(*byte))
+}
+
+// Whether TOML begins or ends a string with the byte.
+fn is_quotation_mark(byte: u8) -> bool {
+    matches!(byte, b'"' | b'\'')
+}

@@ -1,0 +1,5 @@
+mod Walks
+mod Numbers
+mod Own
+pub mod Items
+pub mod LineDepth

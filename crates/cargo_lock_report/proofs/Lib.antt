@@ -1,0 +1,5 @@
+mod Uris
+mod Logs
+pub mod Filtered
+mod Bytes
+mod Listed

@@ -1,0 +1,16 @@
+use Rattle.std.proofs.Common.{◌≡◌, ap, ◌∙◌, sym}
+use Rattle.std.specs.List.{flat_map}
+use Rattle.std.specs.Str.{chars}
+use Rattle.std.proofs.Output.{has_written_of_eq}
+use Rattle.std.proofs.lemmas.Iterator.{YieldsList-from_chars}
+use Rattle.std.proofs.lemmas.Iterator.Consumers.{YieldsList-end}
+use Rattle.std.proofs.lemmas.List.{map-id}
+use Rattle.cargo_lock_report.specs.Escapes.{text_as, char_as}
+use Rattle.cargo_lock_report.proofs.escape.write_escaped.Goals as goal
+
+pub returns : goal.returns
+unfolding text_as
+returns g c = λ plain ok.
+    let t = YieldsList-end (YieldsList-from_chars c.args.text.now c.utf8.text cc) c.loop-c.yielded _ c.loop-c.yielded_by _ _ c.in-None.is c.next.ensures.steps in
+    let all : c.loop-c.yielded ≡ chars c.args.text.now = sym (map-id c.loop-c.yielded) ∙ t.0 in
+    has_written_of_eq _ _ _ _ _ (ap (flat_map (char_as c.args.escape)) all) (c.loop-c.invariant plain)
