@@ -1,6 +1,7 @@
 //! What is reported of the licences of packages.
 
-ghost use Rattle.std.specs.Prelude.{◌≡◌, ◌++◌, IfOk, OnOk, Some, bytes_eq, map, string_bytes};
+ghost use Rattle.std.specs.Prelude.{◌≡◌, ◌++◌, IfOk, OnOk, Some, bytes_eq, count_by, map};
+ghost use Rattle.std.specs.Prelude.{string_bytes};
 ghost use Rattle.std.specs.Fmt.{DisplaysOnOk};
 ghost use Rattle.std.specs.List.{flat_map, list_any};
 ghost use Rattle.cargo_lock_licenses.specs.Judged.{is_judged_finding, judged_of};
@@ -67,11 +68,15 @@ impl<'p, 'a> Report<'p, 'a> {
         Ok(Report { judged, unmet })
     }
 
-    /// Whether there is a finding.
-    pub fn has_finding(&self) -> bool
-        ensures { result ≡ list_any is_judged_finding (map judged_of self.now.judged.items) }
+    /// How many of the packages with a source are findings.
+    ///
+    /// ```
+    /// let is_clean = report.count_of_findings() == 0;
+    /// ```
+    pub fn count_of_findings(&self) -> usize
+        ensures { result ≡ count_by is_judged_finding (map judged_of self.now.judged.items) }
     {
-        has_finding(&self.judged)
+        count_of_findings(&self.judged)
     }
 }
 
@@ -110,11 +115,11 @@ fn put_judged<'p, 'a>(
     Ok(())
 }
 
-// Whether one of these is a finding.
-fn has_finding(judged: &[Judged<'_, '_>]) -> bool
-    ensures { result ≡ list_any (λ j. is_judged_finding (judged_of j)) judged.now }
+// How many of these are findings.
+fn count_of_findings(judged: &[Judged<'_, '_>]) -> usize
+    ensures { result ≡ count_by (λ j. is_judged_finding (judged_of j)) judged.now }
 {
-    judged.iter().any(|judged| judged.is_finding())
+    judged.iter().filter(|judged| judged.is_finding()).count()
 }
 
 // ---- what was said in vain

@@ -10,12 +10,13 @@ use Rattle.cli.specs.declared.Chosen.TheVariants.{Json, Licenses, List as Listin
 use Rattle.cli.specs.declared.Chosen.TheVariants.{Translate, Tree, Verify, Why}
 use Rattle.cli_folder_commands.specs.Audit.{PrintsAudit}
 use Rattle.cli_folder_commands.specs.Bom.{PrintsBill}
-use Rattle.cli.specs.Check.{PrintsCheck}
+use Rattle.cli.specs.Check.{IsFindingsStatus, PrintsCheck}
 use Rattle.cli_lockfile_commands.specs.Diff.{PrintsDifference}
 use Rattle.cli_lockfile_commands.specs.Duplicates.{PrintsDuplicates}
 use Rattle.cli_lockfile_commands.specs.Graph.{DrawsGraph}
 use Rattle.cli_folder_commands.specs.Json.{PrintsLockfile}
 use Rattle.cli_folder_commands.specs.Licenses.{PrintsLicenses}
+use Rattle.cli_folder_commands.specs.declared.licenses.Counts.{Counts}
 use Rattle.cli_lockfile_commands.specs.List.{PrintsList}
 use Rattle.cli.specs.Merge.{PrintsMerge}
 use Rattle.cli_lockfile_commands.specs.Translate.{PrintsTranslation}
@@ -55,7 +56,8 @@ Follows Diff found old new failure success fault = PrintsDifference found old ne
 Follows Duplicates found old new failure success fault = PrintsDuplicates found old new failure success
 Follows Graph found old new failure success fault = DrawsGraph found old new × success
 Follows Json found old new failure success fault = PrintsLockfile found old new × success
-Follows Licenses found old new failure success fault = PrintsLicenses found old new failure success
+Follows Licenses found old new failure success fault = (counts : Counts)
+    × PrintsLicenses found old new counts × IsFindingsStatus counts.findings failure success
 Follows Listing found old new failure success fault = PrintsList found old new × success
 Follows Merge found old new failure success fault = PrintsMerge found old new failure success
 Follows Translate found old new failure success fault = PrintsTranslation found old new × success
@@ -63,9 +65,13 @@ Follows Tree found old new failure success fault = PrintsTrees found old new × 
 Follows Verify found old new failure success fault = PrintsVerified found old new failure success
 Follows Why found old new failure success fault = PrintsWhy found old new × success
 
+-- the arguments name a command that counts what it found, on standard error
+abbrev pub IsCounting : List (List ℕ) → Type 0
+IsCounting words = IsCommandNamed (codes "check") words ⊎ IsCommandNamed (codes "licenses") words
+
 -- the arguments name one of the commands that may write to standard error without a fault
 abbrev pub TellsMore : List (List ℕ) → Type 0
-TellsMore words = IsCommandNamed (codes "merge") words ⊎ IsCommandNamed (codes "check") words
+TellsMore words = IsCommandNamed (codes "merge") words ⊎ IsCounting words
 
 -- a command is followed whose name and options the parse found
 pub record FollowsMatches (m : ArgMatches) (old new : Option (List ℕ))

@@ -1,4 +1,4 @@
--- The line of counts with which `check` ends.
+-- The line of counts with which `check` and `licenses` end.
 use Rattle.std.specs.Prelude.{◌==◌, ◌++◌, ◌∷◌, [], ℕ, List, codes, decimal, if◌then◌else◌}
 use Rattle.cargo_lock_parts.specs.Ascii.{newline}
 

@@ -175,7 +175,7 @@ fn print_check<W: Write>(
     Ok(ended(checked.findings, counts))
 }
 
-/// How `check` ends where so much is found, with this line of counts.
+/// How a command ends that found so much, with this line of counts.
 pub(crate) fn ended(findings: usize, counts: String) -> Ended
     ensures status { IsFindingsStatus findings
         (status_in result ≡ ExitCode.FAILURE) (status_in result ≡ ExitCode.SUCCESS) }

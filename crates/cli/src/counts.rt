@@ -1,4 +1,4 @@
-//! The line of counts with which `check` ends.
+//! The line of counts with which `check` and `licenses` end.
 ghost use Rattle.std.specs.Prelude.{◌≡◌, IfOk, string_bytes};
 ghost use Rattle.cli.specs.Counts as spec;
 

@@ -10,12 +10,13 @@
 //! `check`, `diff`, `duplicates`, `licenses`, `merge` or `verify` found may make it 1.
 #![tactic(auto)]
 
-ghost use Rattle.std.specs.Prelude.{◌≡◌, ◌⊎◌, IfErr, IfOk, IfSome, codes, map};
+ghost use Rattle.std.specs.Prelude.{◌≡◌, ◌⊎◌, ◌↔◌, IfErr, IfOk, IfSome, IsTrue, codes, map};
 ghost use Rattle.std.specs.Io.KnownBytes.{Keeps};
 ghost use Rattle.std.specs.Process.{exit_status};
 ghost use Rattle.clap.specs.Matches.{found_of};
 ghost use Rattle.cli_support.specs.Status.{IsCommandNamed, IsFaultStatus};
-ghost use Rattle.cli.specs.Commands.{Follows, FollowsMatches, TellsMore, name_of};
+ghost use Rattle.cli.specs.Check.{IsFindingsStatus};
+ghost use Rattle.cli.specs.Commands.{Follows, FollowsMatches, IsCounting, TellsMore, name_of};
 ghost use Rattle.cli.specs.Ending.{IsCountedFor, IsEnd, status_in};
 ghost use Rattle.cli.specs.declared.ending.Reader.TheVariants.{Person, Program};
 
@@ -27,6 +28,8 @@ mod merge;
 mod refused;
 mod several;
 
+use crate::check::ended;
+use crate::counts::counts_line;
 use crate::ending::Ended;
 pub use crate::ending::Reader;
 use cargo_lock_bom::options::VERSION;
@@ -46,9 +49,9 @@ use std::time::Clock;
 
 /// Runs the command that `words`, the arguments without the program's own name, ask for. Its output
 /// goes to `out`, which is then flushed, and an error goes to `err`, as one message, as do the
-/// lines of `merge` and, if there are findings, the line of counts of `check`. For each command but
-/// `merge`, if it returns success, nothing was written to `err`. For each other one, if something
-/// was, the status is that of an error.
+/// lines of `merge` and, if there are findings, the line of counts of `check` and of `licenses`. For
+/// each command but `merge`, if it returns success, nothing was written to `err`. For each command
+/// but these three, if something was, the status is that of an error.
 pub fn run<R: Files + Input + Env + Clock + AllocGlobal, S: AsStr, W: Write, E: Write>(
     rt: &R,
     words: &[S],
@@ -64,8 +67,8 @@ pub fn run<R: Files + Input + Env + Clock + AllocGlobal, S: AsStr, W: Write, E: 
     run_for(rt, words, out, err, Reader::Program)
 }
 
-/// The same for this reader of `err`: a person is told by `check` how much was looked at, also
-/// where nothing is found.
+/// The same for this reader of `err`: a person is told by `check` and by `licenses` how much was
+/// looked at, also where nothing is found.
 pub fn run_for<R: Files + Input + Env + Clock + AllocGlobal, S: AsStr, W: Write, E: Write>(
     rt: &R,
     words: &[S],
@@ -83,8 +86,8 @@ pub fn run_for<R: Files + Input + Env + Clock + AllocGlobal, S: AsStr, W: Write,
 }
 
 /// Returns the status of a finished command, and prints the lines of `merge` and the counts of
-/// `check`. If the command failed, prints the message of the error, and returns the status of an
-/// error of the command.
+/// `check` and of `licenses`. If the command failed, prints the message of the error, and returns the
+/// status of an error of the command.
 fn status_of<S: AsStr, E: Write>(
     err: &mut E,
     words: &[S],
@@ -95,7 +98,7 @@ fn status_of<S: AsStr, E: Write>(
     ensures status { IfOk outcome (λ ended. result ≡ status_in ended) }
     ensures ok { IfOk outcome (λ ended. (Keeps (E.contents err.old) (E.contents err.new))
         ⊎ (IsCommandNamed (codes "merge") (map S.text words.now)
-        ⊎ (IsCommandNamed (codes "check") (map S.text words.now) × IsCountedFor reader ended))) }
+        ⊎ (IsCounting (map S.text words.now) × IsCountedFor reader ended))) }
     ensures fault { IfErr outcome (λ _. IsFaultStatus (map S.text words.now) result) }
 {
     match outcome {
@@ -107,13 +110,13 @@ fn status_of<S: AsStr, E: Write>(
             status
         }
         Ok(Ended::Found(counts)) => {
-            if words::name_command(words, "check") {
+            if names_counting(words) {
                 put_lines(err, &counts);
             }
             ExitCode::FAILURE
         }
         Ok(Ended::FoundNothing(counts)) => {
-            if reader.is_person() && words::name_command(words, "check") {
+            if reader.is_person() && names_counting(words) {
                 put_lines(err, &counts);
             }
             ExitCode::SUCCESS
@@ -127,6 +130,13 @@ fn status_of<S: AsStr, E: Write>(
         }
         Err(fault) => report(err, &fault, status::of_fault(words)),
     }
+}
+
+/// Whether the arguments name a command that counts what it found.
+fn names_counting<S: AsStr>(words: &[S]) -> bool
+    ensures { IsTrue result ↔ IsCounting (map S.text words.now) }
+{
+    words::name_command(words, "check") || words::name_command(words, "licenses")
 }
 
 /// Prints the messages of faults, each as `report` does.
@@ -263,6 +273,16 @@ fn dispatch<R: Files + Input + Env + Clock + AllocGlobal, W: Write>(
     }
 }
 
+/// How `licenses` ends where so much was looked at, and so much was found.
+fn counted(alloc: Global, counts: licenses::Counts) -> Result<Ended, Fault>
+    ensures status { IfOk result (λ ended. IsFindingsStatus counts.findings
+        (status_in ended ≡ ExitCode.FAILURE) (status_in ended ≡ ExitCode.SUCCESS)) }
+    ensures end { IfOk result IsEnd }
+{
+    let line = counts_line(alloc, counts.packages, counts.findings)?;
+    Ok(ended(counts.findings, line))
+}
+
 /// Runs a command with its options. Returns how it ended.
 fn follow<R: Files + Input + Env + Clock + AllocGlobal, W: Write>(
     rt: &R,
@@ -284,7 +304,7 @@ fn follow<R: Files + Input + Env + Clock + AllocGlobal, W: Write>(
         Chosen::Duplicates => Ok(Ended::Silent(duplicates::run(rt, options, out)?)),
         Chosen::Graph => Ok(Ended::success(graph::run(rt, options, out)?)),
         Chosen::Json => Ok(Ended::success(json::run(rt, options, out)?)),
-        Chosen::Licenses => Ok(Ended::Silent(licenses::run(rt, options, out)?)),
+        Chosen::Licenses => counted(rt.alloc(), licenses::run(rt, options, out)?),
         Chosen::List => Ok(Ended::success(list::run(rt, options, out)?)),
         Chosen::Merge => merge::run(rt, options, out),
         Chosen::Translate => Ok(Ended::success(translate::run(rt, options, out)?)),

@@ -2,17 +2,17 @@
 //! are not allowed.
 ghost use Rattle.std.specs.Prelude.{◌≡◌, IfOk, map};
 ghost use Rattle.clap.specs.Matches.{found_of};
+ghost use Rattle.cargo_lock_licenses.specs.Judged.{judged_of};
 ghost use Rattle.cargo_lock_licenses.specs.Policy as spec;
 ghost use Rattle.cargo_lock_licenses.specs.Subjects.{license_subject_of};
-ghost use Rattle.cli_folder_commands.specs.Licenses.{AreLicensed, PrintsLicenseReport, PrintsLicenses};
-ghost use Rattle.cli_folder_commands.specs.Licenses.{PrintsLicensesOf};
+ghost use Rattle.cli_folder_commands.specs.Licenses.{AreCounts, AreLicensed, PrintsLicenseReport};
+ghost use Rattle.cli_folder_commands.specs.Licenses.{PrintsLicenses, PrintsLicensesOf};
 ghost use Rattle.cli_input.specs.Told.{subject_of};
 
 use crate::folders::manifests;
 use crate::policy::policy_of;
 use crate::texts;
 use crate::texts::with_forms;
-use crate::verify::status_of;
 use cargo_lock::package::Package;
 use cargo_lock_licenses::{Policy, Report};
 use clap::{ArgMatches, Command};
@@ -25,7 +25,6 @@ use cli_support::{Fault, words};
 use std::alloc::{AllocError, Global};
 use std::env::Env;
 use std::io::{Input, Write};
-use std::process::ExitCode;
 use std::rt::Files;
 
 /// The lines of `licenses`, as help shows them.
@@ -52,7 +51,8 @@ FOLDER is the one that `cargo vendor` made, registry/src of Cargo, or an index f
 manifest of a package has its name and version; in a folder of Cargo it is the one of the folder \
 NAME-VERSION. Links are not followed.
 
-The status is 1 where a line begins with `!`, and 2 where the lockfile, a folder or a manifest \
+On standard error is a line of counts, where anything is found or it is a terminal. The status is 1 \
+where a line begins with `!`, and 2 where the lockfile, a folder or a manifest \
 cannot be read, where no manifest is of a package, and where there may be one that was not read.";
 
 /// The options, as help shows them.
@@ -89,18 +89,28 @@ fn with_policy<'a>(alloc: Global, command: Command<'a>) -> Result<Command<'a>, A
         .arg(texts::option(alloc, "exempt", "NAME[@VERSION]=TERM").help(EXEMPT_HELP))
 }
 
+/// How much was looked at, and how much was found.
+#[derive(Clone, Copy)]
+pub struct Counts {
+    /// How many packages with a source there are.
+    pub packages: usize,
+
+    /// How many of them are findings.
+    pub findings: usize,
+}
+
 /// Prints what is found of the licences of the packages of the lockfile, a line for each, or, if
-/// the arguments ask for it, all as one line of JSON, or as a report. The status is 1 if one is not allowed or not
-/// known, and otherwise 0. Fails if words of the arguments, the lockfile, a folder or a manifest are
-/// not read, or if `out` fails; a prefix of the text was then written in the last case, and nothing in the others.
+/// the arguments ask for it, all as one line of JSON, or as a report. Returns how many packages were
+/// looked at, and how many of them are not allowed or not known. Fails if words of the arguments, the
+/// lockfile, a folder or a manifest are not read, or if `out` fails; a prefix of the text was then
+/// written in the last case, and nothing in the others.
 pub fn run<R: Files + Input + Env + AllocGlobal, W: Write>(
     rt: &R,
     options: &ArgMatches<'_>,
     out: &mut W,
-) -> Result<ExitCode, Fault>
-    ensures { IfOk result (λ status. PrintsLicenses (found_of options.now)
-        (W.contents out.old) (W.contents out.new)
-        (status ≡ ExitCode.FAILURE) (status ≡ ExitCode.SUCCESS)) }
+) -> Result<Counts, Fault>
+    ensures { IfOk result (λ counts. PrintsLicenses (found_of options.now)
+        (W.contents out.old) (W.contents out.new) counts) }
 {
     let policy = policy_of(rt.alloc(), options)?;
     let read = lockfile_with_text(rt, options, "file")?;
@@ -110,18 +120,17 @@ pub fn run<R: Files + Input + Env + AllocGlobal, W: Write>(
     print_licenses(rt, options, &policy, subject, out)
 }
 
-/// Prints what is found of the licences of these packages by a policy. Returns the status.
+/// Prints what is found of the licences of these packages by a policy. Returns how much that is.
 fn print_licenses<R: Files + AllocGlobal, W: Write>(
     rt: &R,
     options: &ArgMatches<'_>,
     policy: &Policy,
     subject: Subject<'_>,
     out: &mut W,
-) -> Result<ExitCode, Fault>
-    ensures { IfOk result (λ status. PrintsLicensesOf (found_of options.now)
+) -> Result<Counts, Fault>
+    ensures { IfOk result (λ counts. PrintsLicensesOf (found_of options.now)
         (spec.policy_of policy.now) (subject_of subject.entry)
-        (W.contents out.old) (W.contents out.new)
-        (status ≡ ExitCode.FAILURE) (status ≡ ExitCode.SUCCESS)) }
+        (W.contents out.old) (W.contents out.new) counts) }
 {
     let subjects = subjects_of(rt, options, subject.packages)?;
     print_report(rt.alloc(), options, policy, subject, &subjects, out)
@@ -171,7 +180,7 @@ fn licensed<'a>(
     Ok(subjects)
 }
 
-/// Prints what is found of these subjects by a policy. Returns the status.
+/// Prints what is found of these subjects by a policy. Returns how much that is.
 fn print_report<W: Write>(
     alloc: Global,
     options: &ArgMatches<'_>,
@@ -179,13 +188,22 @@ fn print_report<W: Write>(
     subject: Subject<'_>,
     subjects: &[cargo_lock_licenses::Subject<'_>],
     out: &mut W,
-) -> Result<ExitCode, Fault>
-    ensures { IfOk result (λ status. PrintsLicenseReport (found_of options.now)
+) -> Result<Counts, Fault>
+    ensures { IfOk result (λ counts. PrintsLicenseReport (found_of options.now)
         (spec.policy_of policy.now) (subject_of subject.entry) (map license_subject_of subjects.now)
-        (W.contents out.old) (W.contents out.new)
-        (status ≡ ExitCode.FAILURE) (status ≡ ExitCode.SUCCESS)) }
+        (W.contents out.old) (W.contents out.new) counts) }
 {
     let report = Report::of(alloc, subjects, policy)?;
     print_findings(alloc, options, subject, &report, out)?;
-    Ok(status_of(!report.has_finding()))
+    Ok(counts_of(&report))
+}
+
+/// How much is in a report.
+fn counts_of(report: &Report<'_, '_>) -> Counts
+    ensures { AreCounts (map judged_of report.now.judged.items) result }
+{
+    Counts {
+        packages: report.judged.len(),
+        findings: report.count_of_findings(),
+    }
 }

@@ -62,13 +62,19 @@ subject_of_lockfile argument path text l = record {
   packages = l.packages;
 }
 
+-- the name of standard input in reports: what `--name` says, unless that is empty
+abbrev pub name_of_standard : Option (List ℕ) → List ℕ
+name_of_standard None = codes "Cargo.lock"
+name_of_standard (Some []) = codes "Cargo.lock"
+name_of_standard (Some (b ∷ bs)) = b ∷ bs
+
 -- the path of a lockfile in what is printed of it: as it was given, unless reports are asked for; these
 -- have for standard input what `--name` says, and may have a path relative to some folder, since no
 -- contract says in which one the program runs
 pub record IsReportPath (found : Found) (argument path : List ℕ) : Type 0 where
   pub given : first_value found (codes "format") ≡ None → path ≡ argument
   pub standard : first_value found (codes "format") ≢ None → argument ≡ codes "-"
-      → path ≡ unwrap_or (first_value found (codes "name")) (codes "Cargo.lock")
+      → path ≡ name_of_standard (first_value found (codes "name"))
   pub other : argument ≢ codes "-"
       → (path ≡ argument) ⊎ ((folder : List ℕ) × StripsPrefix argument folder path)
 

@@ -1,9 +1,10 @@
 //! A lockfile of which findings are printed.
 
-ghost use Rattle.std.specs.Prelude.{◌≡◌, ◌⊎◌, ℕ, IfOk, List, string_bytes};
+ghost use Rattle.std.specs.Prelude.{◌≡◌, ◌⊎◌, ℕ, IfOk, List, option_map, string_bytes};
 ghost use Rattle.std.specs.Path.{StripsPrefix};
 ghost use Rattle.clap.specs.Matches.{found_of};
 ghost use Rattle.cli_input.specs.Told.{IsReportPath, subject_of};
+ghost use Rattle.cli_input.specs.Told as spec;
 
 use crate::load::WithText;
 use cargo_lock::Package;
@@ -71,14 +72,23 @@ pub fn report_path<R: Env + AllocGlobal>(
         return Ok(path);
     }
     if argument == "-" {
-        let path = options.get_str("name").unwrap_or(DEFAULT_PATH);
-        let path = String::from_str(rt.alloc(), path)?;
+        let path = String::from_str(rt.alloc(), name_of_standard(options.get_str("name")))?;
         return Ok(path);
     }
     if options.get_str("name").is_some() {
         return Err(Fault::NameOfFile);
     }
     path_of_file(rt, argument)
+}
+
+/// The name of standard input in reports: what `--name` says, unless that is empty.
+fn name_of_standard(name: Option<&str>) -> &str
+    ensures { result.now ≡ spec.name_of_standard (option_map (λ name. name.now) name) }
+{
+    match name {
+        Some(name) if !name.is_empty() => name,
+        _ => DEFAULT_PATH,
+    }
 }
 
 /// The path of a file in reports.

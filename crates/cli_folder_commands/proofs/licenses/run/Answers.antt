@@ -1,6 +1,5 @@
 use Rattle.std.proofs.Common.{◌≡◌, ◌∙◌, List, codes, refl, string_bytes, subst, ℕ}
 use Rattle.std.proofs.lemmas.Result.{IfOk-weaker}
-use Rattle.std.specs.declared.process.TheConstants.ExitCode.{FAILURE, SUCCESS}
 use Rattle.clap.specs.Matches.{found_of}
 use Rattle.cargo_lock_licenses.specs.Policy.{policy_of}
 use Rattle.cargo_lock_encoding.specs.Lockfiles.{LockfileData}
@@ -21,7 +20,7 @@ returns g c =
     let argument : List ℕ = given_path_in found (codes "file") in
     let subject : subject_of c.of-subject.result ≡ subject_of_lockfile argument path text l =
     c.of-subject.ensures ∙ rw (c.file-file.ensures, c.deref.ensures) refl in
-    IfOk-weaker c.print_licenses.result _ _ (λ status told. (
+    IfOk-weaker c.print_licenses.result _ _ (λ counts told. (
       text,
       path,
       l,
@@ -29,5 +28,5 @@ returns g c =
       c.in_ok-read.ensures.means,
       subst (λ (a : List ℕ). IsReportPath found a path) c.given_path.ensures c.in_ok-path.ensures,
       c.in_ok-policy.ensures,
-      subst (λ (s : SubjectData). PrintsLicensesOf found policy s old new (status ≡ FAILURE) (status ≡ SUCCESS)) subject told,
+      subst (λ (s : SubjectData). PrintsLicensesOf found policy s old new counts) subject told,
     )) c.print_licenses.ensures
