@@ -1,6 +1,5 @@
 -- What is printed of what is found in lockfiles, in the form that the arguments ask for.
 use Rattle.std.specs.Prelude.{◌≡◌, ◌≢◌, ◌⊎◌, ◌++◌, [], ◌∷◌, ℕ, List, None, Option, Some, codes, map}
-use Rattle.std.specs.Prelude.{unwrap_or}
 use Rattle.std.specs.Io.KnownBytes.{Appends}
 use Rattle.std.specs.List.{AllZip, flat_map}
 use Rattle.std.specs.Path.{StripsPrefix}

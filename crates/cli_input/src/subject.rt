@@ -83,7 +83,7 @@ pub fn report_path<R: Env + AllocGlobal>(
 
 /// The name of standard input in reports: what `--name` says, unless that is empty.
 fn name_of_standard(name: Option<&str>) -> &str
-    ensures { result.now ≡ spec.name_of_standard (option_map (λ name. name.now) name) }
+    ensures { result.now ≡ spec.name_of_standard (option_map (λ text. text.now) name.entry) }
 {
     match name {
         Some(name) if !name.is_empty() => name,
