@@ -28,7 +28,7 @@ found_of_licenses s judged unmet = found_in_lockfile s (report_text judged unmet
     (λ path lines. reported_licenses path lines judged)
 
 -- these are how many packages this is said of, and how many of them are findings
-pub record AreCounts (judged : List JudgedData) (counts : Counts) : Type 0 where
+pub record AreLicenseCounts (judged : List JudgedData) (counts : Counts) : Type 0 where
   pub packages : counts.packages ≡ length judged
   pub findings : counts.findings ≡ count_by is_judged_finding judged
 
@@ -36,7 +36,7 @@ pub record AreCounts (judged : List JudgedData) (counts : Counts) : Type 0 where
 pub record PrintsJudged (found : Found) (s : SubjectData) (judged : List JudgedData)
     (unmet : List UnmetData) (old new : Option (List ℕ)) (counts : Counts) : Type 0 where
   pub printed : PrintsFound found (found_of_licenses s judged unmet ∷ []) old new
-  pub counted : AreCounts judged counts
+  pub counted : AreLicenseCounts judged counts
 
 -- what is said of the subjects by a policy is printed
 abbrev pub PrintsLicenseReport : Found → PolicyData → SubjectData → List LicenseSubjectData

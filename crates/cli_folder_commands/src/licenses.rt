@@ -5,8 +5,9 @@ ghost use Rattle.clap.specs.Matches.{found_of};
 ghost use Rattle.cargo_lock_licenses.specs.Judged.{judged_of};
 ghost use Rattle.cargo_lock_licenses.specs.Policy as spec;
 ghost use Rattle.cargo_lock_licenses.specs.Subjects.{license_subject_of};
-ghost use Rattle.cli_folder_commands.specs.Licenses.{AreCounts, AreLicensed, PrintsLicenseReport};
-ghost use Rattle.cli_folder_commands.specs.Licenses.{PrintsLicenses, PrintsLicensesOf};
+ghost use Rattle.cli_folder_commands.specs.Licenses.{AreLicenseCounts, AreLicensed};
+ghost use Rattle.cli_folder_commands.specs.Licenses.{PrintsLicenseReport, PrintsLicenses};
+ghost use Rattle.cli_folder_commands.specs.Licenses.{PrintsLicensesOf};
 ghost use Rattle.cli_input.specs.Told.{subject_of};
 
 use crate::folders::manifests;
@@ -200,7 +201,7 @@ fn print_report<W: Write>(
 
 /// How much is in a report.
 fn counts_of(report: &Report<'_, '_>) -> Counts
-    ensures { AreCounts (map judged_of report.now.judged.items) result }
+    ensures { AreLicenseCounts (map judged_of report.now.judged.items) result }
 {
     Counts {
         packages: report.judged.len(),
