@@ -17,6 +17,7 @@ use cargo_lock_parts::package::{Name, PartialIdentity, SourceId};
 use std::alloc::{AllocError, Global};
 use std::cmp::Ordering;
 use std::marker::Model;
+use url::Url;
 
 // The byte at a place, or zero if the text ends before it.
 fn byte_at(bytes: &[u8], place: usize) -> u8
@@ -60,11 +61,16 @@ fn without_source<'a>(key: &PartialIdentity<'a>) -> PartialIdentity<'a>
 fn cmp_urls(a: Option<&SourceId>, b: Option<&SourceId>) -> Ordering
     ensures { result ≡ url_cmp (option_map (λ s. s.now) a.entry) (option_map (λ s. s.now) b.entry) }
 {
-    match (a, b) {
-        (None, None) => Ordering::Equal,
-        (None, Some(_)) => Ordering::Less,
-        (Some(_), None) => Ordering::Greater,
-        (Some(a), Some(b)) => a.url().cmp(b.url()),
+    url_if(a).cmp(&url_if(b))
+}
+
+// The URL of a source, if there is one.
+fn url_if(source: Option<&SourceId>) -> Option<&Url>
+    ensures { option_map (λ u. u.now) result ≡ option_map (λ s. s.now.url) source.entry }
+{
+    match source {
+        Some(source) => Some(source.url()),
+        None => None,
     }
 }
 
