@@ -1,40 +1,27 @@
--- A part of a text, place by place.
-use Rattle.std.proofs.Common.{◌≡◌, ◌∙◌, ◌++◌, ◌<◌, ◌+◌, ◌-◌, ◌⊎◌, inl, inr, ℕ, List, Bool, true, false, take, drop, length, nat_eq, sym, ap, arith, length-append, length-drop}
+-- A part of a text, as a search finds it.
+use Rattle.std.proofs.Common.{◌≡◌, ◌∙◌, ◌++◌, ◌+◌, ◌⊎◌, inl, inr, ℕ, List, Bool, Option, Some, None, true, false, take, drop, length, refl, sym, ap, arith, length-append, take-append-drop}
 use Rattle.std.specs.Bool.{Decides}
-use Rattle.std.specs.List.{starts_with}
+use Rattle.std.specs.Option.{is_some}
 use Rattle.std.specs.Str.Iter.{HasSubslice}
-use Rattle.std.proofs.lemmas.Bool.{cases_eq, false≢true}
-use Rattle.std.proofs.lemmas.Bool.Decides.{Decides-eqb}
-use Rattle.std.proofs.lemmas.List.{take-append-drop, take_all}
-use Rattle.std.proofs.lemmas.Slice.Eq.{starts_is}
-use Rattle.std.proofs.Math.Seq.{drop-append_seam}
+use Rattle.std.proofs.lemmas.Bool.{false≢true}
+use Rattle.std.proofs.Math.Seq.{take-append_seam, drop-append_seam}
+use Rattle.memchr.specs.Find.{FindsNeedle}
+use Rattle.memchr.proofs.lemmas.MatchLemmas.{OccursAt-from_part, OccursAt-split}
 
--- what is read from a place on
-rest-from : (text : List ℕ) (n : ℕ) → take (length text - n) (drop n text) ≡ drop n text
-rest-from text n = take_all (length text - n) (drop n text) (let e = length-drop n text in omega (arith, e))
-
--- the part is there
-pub part-here : (text part : List ℕ) (n : ℕ) (b : Bool) → b ≡ starts_with nat_eq (take (length text - n) (drop n text)) part → b ≡ true → HasSubslice text part
-part-here text part n b is hit =
-    let begins = (starts_is Decides-eqb (drop n text) part b (is ∙ ap (λ s. starts_with nat_eq s part) (rest-from text n))).0 hit in
-    (take n text, drop (length part) (drop n text), sym (take-append-drop n text) ∙ ap (λ s. take n text ++ s) begins)
-
--- one more place, at which the part is not
-pub not-here : (text part : List ℕ) (n : ℕ) (b : Bool) → b ≡ starts_with nat_eq (take (length text - n) (drop n text)) part → b ≡ false
-    → ((k : ℕ) (rest : List ℕ) → k < n → ¬ (drop k text ≡ part ++ rest)) → (k : ℕ) (rest : List ℕ) → k < n + 1 → ¬ (drop k text ≡ part ++ rest)
-not-here text part n b is miss before k rest low e = elim (cases_eq k n) [
-  | inl same ↦
-      false≢true (sym miss ∙ (starts_is Decides-eqb (drop n text) part b (is ∙ ap (λ s. starts_with nat_eq s part) (rest-from text n))).1 rest
-      (ap (λ i. drop i text) (sym same) ∙ e))
-  | inr other ↦ before k rest (omega (arith, low, other)) e
-]
-
--- the part is at no place
-pub part-nowhere : (text part : List ℕ) (n : ℕ) → length text < n → ((k : ℕ) (rest : List ℕ) → k < n → ¬ (drop k text ≡ part ++ rest)) → ¬ HasSubslice text part
-part-nowhere text part n past none has =
-    let a : List ℕ = has.0 in
-    let long : length text ≡ length a + length (part ++ has.1) = ap length has.2 ∙ length-append a (part ++ has.1) in
-    none (length a) has.1 (omega (arith, past, long)) (ap (drop (length a)) has.2 ∙ drop-append_seam a (part ++ has.1))
+-- the search finds a place just where the text has the part
+pub found-part : (text part : List ℕ) (r : Option ℕ) → FindsNeedle text part 0 r → Decides (is_some r) (HasSubslice text part)
+found-part text part None none = (
+  λ no. absurd (false≢true no),
+  λ has.
+      let a : List ℕ = has.0 in
+      let long : length text ≡ length a + length (part ++ has.1) = ap length has.2 ∙ length-append a (part ++ has.1) in
+      let longer = length-append part has.1 in
+      let here = ap (λ l. take (length part) (drop (length a) l)) has.2 ∙ ap (take (length part)) (drop-append_seam a (part ++ has.1)) ∙ take-append_seam part has.1 in
+      absurd (none (length a) (omega arith) (omega (arith, long)) (OccursAt-from_part text part (length a) (omega (arith, long, longer)) here)),
+)
+found-part text part (Some k) found =
+    let there : HasSubslice text part = (take k text, drop (k + length part) text, sym (take-append-drop k text) ∙ ap (λ l. take k text ++ l) (OccursAt-split text part k found.1)) in
+    (λ yes. there, λ has. refl)
 
 -- ---- one or the other
 

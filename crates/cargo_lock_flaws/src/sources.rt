@@ -10,6 +10,7 @@ ghost use Rattle.cargo_lock_flaws.specs.Sources.{HasUserInfo, IsFrom, IsFromAt, 
 
 use cargo_lock_order::is_canonically_crates_io;
 use cargo_lock_parts::package::{Package, SourceId};
+use memchr::memmem;
 use percent_encoding::percent_decode_str;
 use std::alloc::{AllocError, Global};
 use url::Url;
@@ -80,15 +81,11 @@ fn names_index(alloc: Global, text: &[u8]) -> Result<bool, AllocError>
     Ok(is_git_index || is_sparse_index)
 }
 
+// Whether the text has the part in it.
 fn has_part(text: &[u8], part: &[u8]) -> bool
     ensures { Decides result (HasSubslice text.now part.now) }
 {
-    for start in 0..=text.len() {
-        if text[start..].starts_with(part) {
-            return true;
-        }
-    }
-    false
+    memmem::find(text, part).is_some()
 }
 
 /// The places of packages from a source that Cargo takes for crates.io, though it writes crates.io
