@@ -5,7 +5,6 @@ use Rattle.std.specs.List.{flat_map}
 use Rattle.std.specs.Option.{option_to_list}
 use Rattle.std.proofs.lemmas.Bool.{false≢true}
 use Rattle.std.proofs.lemmas.Grind.{flat_map-append}
-use Rattle.std.proofs.lemmas.List.Concat.{flat_map-cons}
 use Rattle.std.proofs.lemmas.List.{append-nil, map-append, take_more}
 use Rattle.semver.specs.Identifiers.{parts_text}
 use Rattle.cargo_lock_parts.specs.Identity.{Identity}
@@ -28,11 +27,6 @@ then-one f xs i x a b c h is e g = then a b c (map f (take i xs)) (f x ∷ []) e
 -- one more element's lines
 pub then-more : {X : Type 0} (f : X → List (List ℕ)) (xs : List X) (i : ℕ) (x : X) (a b c : List ℕ) → i < length xs → x ≡ get_or xs i x → b ≡ a ++ join_lines (flat_map f (take i xs)) → c ≡ b ++ join_lines (f x) → c ≡ a ++ join_lines (flat_map f (take (i + 1) xs))
 then-more f xs i x a b c h is e g = then a b c (flat_map f (take i xs)) (f x) e g ∙ rw (take_more xs i x h, flat_map-append f (take i xs) (get_or xs i x ∷ []), ← is, append-nil (f x))
-
--- the lines of what each item becomes
-pub flat_map-map : {X Y Z : Type 0} (f : Y → List Z) (g : X → Y) (xs : List X) → flat_map f (map g xs) ≡ flat_map (λ x. f (g x)) xs
-flat_map-map f g [] = refl
-flat_map-map f g (x ∷ xs) = flat_map-cons f (g x) (map g xs) ∙ ap (λ zs. f (g x) ++ zs) (flat_map-map f g xs) ∙ sym (flat_map-cons (λ y. f (g y)) x xs)
 
 -- ---- a package
 

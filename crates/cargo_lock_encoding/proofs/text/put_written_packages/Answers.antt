@@ -1,10 +1,10 @@
 use Rattle.std.proofs.Common.{◌≡◌, ◌++◌, ◌∙◌, ℕ, List, OnOk, map, string_bytes, sym, ap, subst}
 use Rattle.std.specs.List.{flat_map}
+use Rattle.std.proofs.lemmas.List.Folds.{flat_map-map}
 use Rattle.cargo_lock_parts.specs.Identity.{PackageData, identity_of}
 use Rattle.cargo_lock_encoding.specs.Table.{encoded_package_of}
 use Rattle.cargo_lock_encoding.specs.Text.{package_lines}
 use Rattle.cargo_lock_lines.specs.Layout.{join_lines}
-use Rattle.cargo_lock_encoding.proofs.Lines.{flat_map-map}
 use Rattle.cargo_lock_encoding.proofs.text.put_written_packages.Goals as goal
 
 pub returns : goal.returns
