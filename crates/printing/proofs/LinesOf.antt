@@ -4,6 +4,7 @@ use Rattle.std.specs.Int.{IsInRange}
 use Rattle.std.specs.List.{flat_map, onto_first, slice_split}
 use Rattle.std.specs.Str.Lines.{lines, lines_of_parts, strip_carriage_return}
 use Rattle.std.proofs.lemmas.List.Elements.{All-head, All-map, All-tail, All-weaker}
+use Rattle.std.proofs.lemmas.List.Folds.{flat_map-map}
 use Rattle.std.proofs.lemmas.List.Splits.{slice_split_at}
 use Rattle.printing.proofs.Printable.{Prints}
 use Rattle.printing.specs.Laws.{IsPrintable, PrintableAreLines, newline}
@@ -47,10 +48,6 @@ printable-lines (text ∷ texts) h =
     ∙ ap (λ (x : List ℕ). x ∷ lines rest) (keeps-all text here)
     ∙ ap (λ (xs : List (List ℕ)). text ∷ xs) (printable-lines texts (All-tail IsPrintable text texts h))
 
-flat_map-map : {X : Type 0} (line : X → List ℕ) (xs : List X) → flat_map (λ (t : List ℕ). t ++ newline ∷ []) (map line xs) ≡ flat_map (λ x. line x ++ newline ∷ []) xs
-flat_map-map line [] = refl
-flat_map-map line (x ∷ xs) = ap (λ (rest : List ℕ). (line x ++ newline ∷ []) ++ rest) (flat_map-map line xs)
-
 -- values that are each shown as a printable text are as many lines
 pub each-is-line : {X : Type 0} (line : X → List ℕ) → ((x : X) → Prints (line x)) → (xs : List X) → lines (flat_map (λ x. line x ++ newline ∷ []) xs) ≡ map line xs
-each-is-line line h xs = ap lines (sym (flat_map-map line xs)) ∙ printable-lines (map line xs) (All-map IsPrintable line xs (λ k d lt. (h (get_or xs k d)).all))
+each-is-line line h xs = ap lines (sym (flat_map-map (λ (t : List ℕ). t ++ newline ∷ []) line xs)) ∙ printable-lines (map line xs) (All-map IsPrintable line xs (λ k d lt. (h (get_or xs k d)).all))
