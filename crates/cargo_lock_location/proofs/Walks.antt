@@ -1,30 +1,51 @@
 -- What a walk over the bytes or the lines of a text finds.
-use Rattle.std.proofs.Common.{◌≡◌, ◌∙◌, ◌+◌, ◌-◌, ◌<◌, ◌≤◌, ◌++◌, ◌||◌, ◌&&◌, ℕ, Bool, true, false, List, [], ◌∷◌, Bor, None, Some, ap, arith, bytes_eq, codes, drop, eqb, get_or, if◌then◌else◌, length, length-drop, map, nat_eq, not, refl, sym, take, zero-add}
+use Rattle.std.proofs.Common.{◌≡◌, ◌∙◌, inl, inr, ◌+◌, ◌-◌, ◌<◌, ◌≤◌, ◌++◌, ◌||◌, ◌&&◌, ℕ, Bool, true, false, List, [], ◌∷◌, Bor, None, Some, ap, arith, bytes_eq, codes, drop, eqb, get_or, if◌then◌else◌, length, length-drop, map, not, refl, sym, take, zero-add}
+use Rattle.std.specs.Bool.{Decides}
 use Rattle.std.specs.List.{starts_with}
-use Rattle.std.proofs.lemmas.Bool.{ne_eqb}
+use Rattle.std.specs.Str.Iter.{HasSubslice}
+use Rattle.std.proofs.lemmas.Bool.{cases_Bool, or_right}
+use Rattle.std.proofs.lemmas.Bool.Decides.{Decides-eqb}
 use Rattle.std.proofs.lemmas.List.{drop-map, drop_all, drop_more, length-map, length-take-le, map-append, take_all, take_more}
+use Rattle.std.proofs.lemmas.Slice.Eq.{starts_is}
 use Rattle.cargo_lock_location.specs.Location.{headers_from, is_among, is_blank, is_package_header, is_part, line_above, without_blanks}
 
 -- what is read from a place on
 pub rest-from : {X : Type 0} (text : List X) (n : ℕ) → take (length text - n) (drop n text) ≡ drop n text
 rest-from text n = take_all (length text - n) (drop n text) (let e = length-drop n text in omega (arith, e))
 
--- a text without bytes begins with no part but an empty one
-pub empty-part : (part : List ℕ) → nat_eq (length part) 0 ≡ starts_with eqb [] part
-empty-part [] = refl
-empty-part (c ∷ rest) = ne_eqb (length (c ∷ rest)) 0 (λ e. omega (arith, e))
-
 -- the text begins with the part
-pub part-here : (part xs : List ℕ) → starts_with eqb xs part ≡ true → is_part part xs ≡ true
+part-here : (part xs : List ℕ) → starts_with eqb xs part ≡ true → is_part part xs ≡ true
 part-here part [] e = e
 part-here part (c ∷ rest) e = ap (λ (b : Bool). b || is_part part rest) e
 
--- the part is not at a place
-pub part-later : (part text : List ℕ) (n : ℕ) → n < length text → starts_with eqb (drop n text) part ≡ false
-    → is_part part (drop n text) ≡ is_part part (drop (n + 1) text)
-part-later part text n within e =
-    let cut : drop n text ≡ get_or text n 0 ∷ drop (n + 1) text = drop_more text n 0 within in
-    ap (is_part part) cut ∙ ap (λ (b : Bool). b || is_part part (drop (n + 1) text)) (ap (λ xs. starts_with eqb xs part) (sym cut) ∙ e)
+begins : (part text : List ℕ) → (starts_with eqb text part ≡ true → text ≡ part ++ drop (length part) text)
+    × ((rest : List ℕ) → text ≡ part ++ rest → starts_with eqb text part ≡ true)
+begins part text = starts_is Decides-eqb text part (starts_with eqb text part) refl
+
+-- the part is found where the text has it
+part-found : (part text a b : List ℕ) → text ≡ a ++ (part ++ b) → is_part part text ≡ true
+part-found part text [] b e = part-here part text ((begins part text).1 b e)
+part-found part [] (x ∷ a) b e = cc e
+part-found part (c ∷ rest) (x ∷ a) b e =
+    or_right (starts_with eqb (c ∷ rest) part) (is_part part rest) (part-found part rest a b (ap (drop 1) e))
+
+-- and nowhere else
+part-there : (part text : List ℕ) → is_part part text ≡ true → HasSubslice text part
+part-there part [] hit =
+    let here : HasSubslice [] part = ([], drop (length part) [], (begins part []).0 hit) in here
+part-there part (c ∷ rest) hit = elim (cases_Bool (starts_with eqb (c ∷ rest) part)) [
+  | inl begun ↦
+      let here : HasSubslice (c ∷ rest) part = ([], drop (length part) (c ∷ rest), (begins part (c ∷ rest)).0 begun) in
+      here
+  | inr other ↦
+      let later : HasSubslice rest part = part-there part rest (sym (ap (λ (b : Bool). b || is_part part rest) other) ∙ hit) in
+      let there : HasSubslice (c ∷ rest) part = (c ∷ later.0, later.1, ap (λ (xs : List ℕ). c ∷ xs) later.2) in
+      there
+]
+
+-- some part of the text is this one just where the text has it in it
+pub is_part-Decides : (part text : List ℕ) → Decides (is_part part text) (HasSubslice text part)
+is_part-Decides part text = (part-there part text, λ has. part-found part text has.0 has.1 has.2)
 
 -- white space at a place
 pub blank-later : (line : List ℕ) (n : ℕ) → n < length line → is_blank (get_or line n 0) ≡ true

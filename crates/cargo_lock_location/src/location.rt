@@ -123,19 +123,14 @@ fn is_clear(line: &str) -> bool
 fn has_quotes(line: &str) -> bool
     ensures { result ≡ spec.has_quotes line.now }
 {
-    has_part(line.as_bytes(), b"\"\"\"") || has_part(line.as_bytes(), b"'''")
+    has_part(line, "\"\"\"") || has_part(line, "'''")
 }
 
 // Whether some part of the text is this one.
-fn has_part(text: &[u8], part: &[u8]) -> bool
+fn has_part(text: &str, part: &str) -> bool
     ensures { result ≡ spec.is_part part.now text.now }
 {
-    for start in 0..text.len() {
-        if text[start..].starts_with(part) {
-            return true;
-        }
-    }
-    part.is_empty()
+    text.contains(part)
 }
 
 // Whether the line begins a table of an array otherwise than Cargo writes packages and patches.
