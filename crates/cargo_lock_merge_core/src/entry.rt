@@ -19,6 +19,7 @@ use crate::rows::Row;
 use crate::rule3::Side;
 use crate::values::{choose_checksum, choose_replacement};
 use cargo_lock_parts::error::Result;
+use cargo_lock_parts::package::Checksum;
 use std::alloc::{AllocError, Global};
 
 /// The package that is chosen at a place.
@@ -27,8 +28,8 @@ pub struct Chosen<'a, 'd> {
     /// The package of a side.
     pub package: Placed<'a, 'd>,
 
-    /// The side whose checksum it has. `None` if the sides are in conflict about it.
-    pub checksum: Option<Side>,
+    /// Its checksum, if it has one. `None` if the sides are in conflict about it.
+    pub checksum: Option<Option<Checksum>>,
 
     /// The side whose replacement it has. `None` if the sides are in conflict about it.
     pub replacement: Option<Side>,
