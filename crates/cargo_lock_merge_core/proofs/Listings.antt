@@ -1,5 +1,5 @@
 -- Two listings of the same packages at their places have the same merge and the same conflicts.
-use Rattle.std.proofs.Common.{◌≡◌, ◌∙◌, ◌⊎◌, ◌↔◌, inl, inr, ℕ, Bool, true, false, cond, List, Option, Some, None, ap, option_map, refl, slice_get, subst, sym}
+use Rattle.std.proofs.Common.{◌≡◌, ◌∙◌, ◌⊎◌, ◌↔◌, inl, inr, ℕ, Bool, true, false, cond, List, Option, Some, None, ap, option_map, refl, slice_get, subst, sym, is_none}
 use Rattle.std.specs.Prelude.{◌||◌, count_by, nat_lt}
 use Rattle.std.specs.List.{Contains}
 use Rattle.std.specs.declared.cmp.Ordering.TheVariants.{Less}
@@ -338,11 +338,7 @@ module _ {P : Type 0} where
     lacks-like w w' lw (y, is, none) = by (if_same x' w') refl
       where
         -- whether there is such a package, and whether it has no checksum
-        Shown : Option (PlacedData P) → Option Bool
-        Shown = option_map (λ (v : PlacedData P). is_none v.content.checksum)
-
-        same : Shown (if_same x' w') ≡ Some true
-        unfolding Shown
+        same : option_map (λ (v : PlacedData P). is_none v.content.checksum) (if_same x' w') ≡ Some true
         same = sym (same-like (option_map (λ (v : PlacedData P). is_none v.content.checksum)) (λ y w like. ap (λ (p : PackageData). Some (is_none p.checksum)) like.content) x x' w w' lx lw)
             ∙ ap (option_map (λ (v : PlacedData P). is_none v.content.checksum)) is ∙ ap (λ (c : Option (List ℕ)). Some (is_none c)) none
 
@@ -351,7 +347,6 @@ module _ {P : Type 0} where
         absent (Some c) e = absurd (cc e)
 
         by : (o : Option (PlacedData P)) → if_same x' w' ≡ o → LacksChecksum x' w'
-        unfolding Shown
         by None e = let n = sym same ∙ ap (option_map (λ (v : PlacedData P). is_none v.content.checksum)) e in absurd (cc n)
         by (Some v) e = (v, e, absent v.content.checksum (same_Some (is_none v.content.checksum) true (sym (ap (option_map (λ (v : PlacedData P). is_none v.content.checksum)) e) ∙ same)))
 

@@ -150,9 +150,23 @@ fn replacement_if<'a, 'd>(row: &Row<'a, 'd>, chosen: Option<Chosen<'a, 'd>>) -> 
     requires { MatchOption chosen (Unit {0}) (λ c. HasValues row.now c) }
     ensures { (d : ℕ) → (result ≡ Some d) ↔ IsReplacementIf row.now chosen.entry d }
 {
-    match chosen?.replacement? {
-        Side::Ours => row.ours?.replacement,
-        Side::Theirs => row.theirs?.replacement,
+    match chosen {
+        Some(chosen) => replacement_of(row, chosen),
+        None => None,
+    }
+}
+
+// The place of the replacement of the chosen package.
+fn replacement_of<'a, 'd>(row: &Row<'a, 'd>, chosen: Chosen<'a, 'd>) -> Option<usize>
+    requires { HasValues row.now chosen }
+    ensures { (d : ℕ) → (result ≡ Some d) ↔ IsReplacementIf row.now (Some chosen.entry) d }
+{
+    match chosen.replacement {
+        Some(side) => match package_of(row, side) {
+            Some(package) => package.replacement,
+            None => None,
+        },
+        None => None,
     }
 }
 

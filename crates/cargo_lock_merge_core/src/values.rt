@@ -27,7 +27,10 @@ pub fn choose_checksum<'a, 'd>(
     let base = checksum_if(if_same(chosen, base));
     let ours = checksum_if(if_same(chosen, ours));
     let theirs = checksum_if(if_same(chosen, theirs));
-    only_checksum(only_checksum(base, ours)?, theirs)
+    match only_checksum(base, ours) {
+        Some(first) => only_checksum(first, theirs),
+        None => None,
+    }
 }
 
 // The only checksum of two that may be absent, if there is one. `None` if they differ.
@@ -38,12 +41,20 @@ fn only_checksum(one: Option<Checksum>, other: Option<Checksum>) -> Option<Optio
     match (one, other) {
         (None, other) => Some(other),
         (one, None) => Some(one),
-        (Some(Checksum::Sha256(one)), Some(Checksum::Sha256(other))) => if one == other {
-            Some(Some(Checksum::Sha256(one)))
+        (Some(one), Some(other)) => if are_equal(one, other) {
+            Some(Some(one))
         } else {
             None
         },
     }
+}
+
+fn are_equal(one: Checksum, other: Checksum) -> bool
+    ensures { Decides result (digest_of one ≡ digest_of other) }
+{
+    let Checksum::Sha256(one) = one;
+    let Checksum::Sha256(other) = other;
+    one == other
 }
 
 /// Whether the package is there, has the identity of the chosen one, and a checksum.

@@ -11,7 +11,7 @@ pub returns-then-is_same_as : goal.returns-then-is_same_as
 returns-then-is_same_as c =
     counts-base (data_if c.args.base) (placed_data c.args.chosen) (placed_data c.args.«package») c.are_same.result c.are_same.ensures c.if-are_same.false (c.is_same_as.ensures.0 c.if-is_same_as.true)
 
-pub returns-else-is_same_as : goal.returns-else-is_same_as
-returns-else-is_same_as c =
+pub returns : goal.returns
+returns c =
     counts-sourceless (data_if c.args.base) (placed_data c.args.chosen) (placed_data c.args.«package») c.are_same.result c.are_same.ensures c.has_no_source.result c.if-are_same.false
     (λ e. let t = c.is_same_as.ensures.1 e in absurd (true≢false (sym t ∙ c.if-is_same_as.false))) c.has_no_source.ensures
