@@ -181,9 +181,6 @@ module _ (all : Lockfiles) (places : List Place) (s : Triple ℕ) (are : AreSide
 -- ---- moved references
 
 module _ (all : Lockfiles) (ps : List PackageData) (remarks : Remarks) (h : IsMergeFound all ps remarks) where
-  rs : List Moved
-  rs = remarks.moved.items
-
   a : IsAssembledMerge all h.places h.triple h.numbered ps
   a = assembled-at all h.places h.triple h.numbered ps h.sides h.merged h.assembled
 
@@ -193,7 +190,7 @@ module _ (all : Lockfiles) (ps : List PackageData) (remarks : Remarks) (h : IsMe
   IsMovedHere : Moved → Type 0
   IsMovedHere r = (x : PlacedData ℕ) × (y : PlacedData ℕ) × IsMoved h.triple.ours h.triple.theirs h.numbered x y r.found
 
-  moved-here : (r : Moved) → Contains rs r → IsMovedHere r
+  moved-here : (r : Moved) → Contains remarks.moved.items r → IsMovedHere r
   unfolding IsMovedHere
   moved-here r (k, low, is) = subst IsMovedHere is (h.moved.each k r low)
 
@@ -203,19 +200,19 @@ module _ (all : Lockfiles) (ps : List PackageData) (remarks : Remarks) (h : IsMe
       let (z, w, between, places) = moved-placed all h.places h.triple h.sides h.numbered h.merged a.merge.merged a.from a.into x y r.found is in
       ((z, w, subst (λ (s : Triple Place). IsMovedBetween s a.merge.merged z w r.found) (sym a.placed) between), places)
 
-  places-same : map (moved_places all) rs ≡ map pair (map moved_numbers rs)
-  places-same = maps-same (moved_places all) (λ r. pair (moved_numbers r)) rs (λ r among. (placed-here r (moved-here r among)).1) ∙ sym (map-map pair moved_numbers rs)
+  places-same : map (moved_places all) remarks.moved.items ≡ map pair (map moved_numbers remarks.moved.items)
+  places-same = maps-same (moved_places all) (λ r. pair (moved_numbers r)) remarks.moved.items (λ r among. (placed-here r (moved-here r among)).1) ∙ sym (map-map pair moved_numbers remarks.moved.items)
 
-  numbers-of : (p : ℕ × ℕ) → Contains (map moved_numbers rs) p → IsNumber h.places p.0 × IsNumber h.places p.1
+  numbers-of : (p : ℕ × ℕ) → Contains (map moved_numbers remarks.moved.items) p → IsNumber h.places p.0 × IsNumber h.places p.1
   unfolding IsMovedHere
   numbers-of p among =
-      let (r, there, same) = map-in moved_numbers rs p among in
+      let (r, there, same) = map-in moved_numbers remarks.moved.items p among in
       let (x, y, is) = moved-here r there in
       let nx = merged-number all h.places h.triple h.sides h.numbered h.merged x is.moved.from in
       let ny = merged-number all h.places h.triple h.sides h.numbered h.merged y is.moved.to in
       (subst (IsNumber h.places) (sym is.from ∙ ap (λ (q : ℕ × ℕ). q.0) same) nx, subst (IsNumber h.places) (sym is.to ∙ ap (λ (q : ℕ × ℕ). q.1) same) ny)
 
-  pair-one : (p q : ℕ × ℕ) → Contains (map moved_numbers rs) p → Contains (map moved_numbers rs) q → pair p ≡ pair q → p ≡ q
+  pair-one : (p q : ℕ × ℕ) → Contains (map moved_numbers remarks.moved.items) p → Contains (map moved_numbers remarks.moved.items) q → pair p ≡ pair q → p ≡ q
   unfolding pair
   pair-one p q inp inq same =
       let (np, mp) = numbers-of p inp in
@@ -224,20 +221,20 @@ module _ (all : Lockfiles) (ps : List PackageData) (remarks : Remarks) (h : IsMe
       let f = numbers-one h.places p.1 q.1 mp mq (ap (λ (w : Place × Place). w.1) same) in
       λ i. (e i, f i)
 
-  moved-there : (z w : PlacedData Place) → IsMovedReference a.merge.placed a.merge.merged z w → Contains (map (moved_places all) rs) (z.place, w.place)
+  moved-there : (z w : PlacedData Place) → IsMovedReference a.merge.placed a.merge.merged z w → Contains (map (moved_places all) remarks.moved.items) (z.place, w.place)
   unfolding pair
   moved-there z w r =
       let (x, y, moved, from, to) = moved-back all h.places h.triple h.sides h.numbered h.merged a.merge.merged a.from a.into z w (subst (λ (s : Triple Place). IsMovedReference s a.merge.merged z w) a.placed r) in
-      let among = in-map pair (map moved_numbers rs) (x.place, y.place) (h.moved.all_there x y moved) in
+      let among = in-map pair (map moved_numbers remarks.moved.items) (x.place, y.place) (h.moved.all_there x y moved) in
       let same : (place_at h.places x.place, place_at h.places y.place) ≡ (z.place, w.place) = λ i. (sym from i, sym to i) in
-      subst (λ (zs : List (Place × Place)). Contains zs (z.place, w.place)) (sym places-same) (subst (Contains (map pair (map moved_numbers rs))) same among)
+      subst (λ (zs : List (Place × Place)). Contains zs (z.place, w.place)) (sym places-same) (subst (Contains (map pair (map moved_numbers remarks.moved.items))) same among)
 
   pub moved-by-places : AreMovedByPlaces all ps remarks.moved.items
   moved-by-places = record {
     merge = a.merge;
-    each = λ k d low. let r : Moved = get_or rs k d in (placed-here r (moved-here r (Contains-get_or rs k d low))).0;
+    each = λ k d low. let r : Moved = get_or remarks.moved.items k d in (placed-here r (moved-here r (Contains-get_or remarks.moved.items k d low))).0;
     all_there = moved-there;
-    once = subst (AllPairs (λ p q. p ≢ q)) (sym places-same) (pairs-mapped pair (map moved_numbers rs) pair-one h.moved.once);
+    once = subst (AllPairs (λ p q. p ≢ q)) (sym places-same) (pairs-mapped pair (map moved_numbers remarks.moved.items) pair-one h.moved.once);
   }
 
 -- ---- what a merge returns

@@ -8,7 +8,7 @@ use Rattle.cargo_lock_parts.specs.IdentityOrder.{is_same_identity}
 use Rattle.cargo_lock_parts.specs.Source.{Branch, DefaultBranch, Directory, Git, GitReference, Kind, LocalRegistry, Path, Registry, Rev, Source, SparseRegistry, Tag, is_git}
 use Rattle.std.specs.Borrow.{Bor}
 use Rattle.cargo_lock_merge_core.specs.declared.conflicts.Conflict as merging
-use Rattle.cargo_lock_merge_core.specs.declared.conflicts.Kind.{Kind}
+use Rattle.cargo_lock_merge_core.specs.declared.conflicts.Kind as matter
 use Rattle.cargo_lock_merge_core.specs.declared.conflicts.Kind.TheVariants as kind
 use Rattle.cargo_lock_merge_core.specs.declared.moved.Reference.{Reference}
 use Rattle.cargo_lock_merge_core.specs.declared.refusal.Refusal.{Refusal}
@@ -132,7 +132,7 @@ sides-print o t = either_text o
 none-prints : Prints (codes "none")
 none-prints = literal (codes "none") refl
 
-notice-by-prints : (k : Kind) (b o t : Option (Bor PackageData)) → Prints (notice_by k b o t)
+notice-by-prints : (k : matter.Kind) (b o t : Option (Bor PackageData)) → Prints (notice_by k b o t)
 notice-by-prints kind.Version b (Some o) (Some t) = words (codes "version: ") refl (join (versions-print o.now t.now) (literal (codes ": its manifest decides") refl))
 notice-by-prints kind.Version b None t = none-prints
 notice-by-prints kind.Version b (Some o) None = none-prints
