@@ -15,6 +15,6 @@ loss-line m b sides is there same = subst (λ (text : List ℕ). (codes "alarm: 
 pub returns-in-LostChecksum-Some-default-default-clause-writes :
     goal.returns-in-LostChecksum-Some-default-default-clause-writes
 returns-in-LostChecksum-Some-default-default-clause-writes g c = λ plain ok.
-    subst (λ (text : List ℕ). HasWritten {W = g.row.W.Denot} g.W.Write.write_str_gives c.args.f.now text)
+    subst (λ (text : List ℕ). HasWritten {W = g.row.W.Denot} g.W.Write.write_str_gives c.args.f.now text c.write-in-LostChecksum-Some-default-default.new.self)
     (loss-line c.args.self.now.0 c.in-LostChecksum-Some-default-default.base c.sides_of_loss-sides.result.now c.in-LostChecksum-Some-default-default.is-0 c.in-LostChecksum-Some-default-default.is-1 c.sides_of_loss-sides.ensures)
     (c.write-in-LostChecksum-Some-default-default.ensures.writes plain ok)
