@@ -7,8 +7,9 @@ ghost use Rattle.cargo_lock_merge_core.specs.Merged.{HasPlan};
 ghost use Rattle.cargo_lock_merge_core.specs.Plans.{numbered_triple};
 ghost use Rattle.cargo_lock_merge.specs.Conflict.{AreConflictsAtPlaces, AreConflictsOf};
 ghost use Rattle.cargo_lock_merge.specs.declared.conflict.Conflict.TheVariants.{AtPlace, OfSource};
-ghost use Rattle.cargo_lock_merge.specs.Lines.{absent, checksum_of_side, commit_value};
-ghost use Rattle.cargo_lock_merge.specs.Lines.{commit_values, line_of, other_commit_line};
+ghost use Rattle.cargo_lock_merge.specs.Lines.{absent, checksum_line, checksum_of_side};
+ghost use Rattle.cargo_lock_merge.specs.Lines.{checksum_value, commit_value, commit_values, line_of};
+ghost use Rattle.cargo_lock_merge.specs.Lines.{other_commit_line};
 ghost use Rattle.cargo_lock_merge.specs.Lines.{replacement_value, same_if};
 ghost use Rattle.cargo_lock_merge.specs.declared.words.Value.TheVariants.{Version};
 
@@ -75,7 +76,7 @@ fn conflicts_at_places<'a, 'd>(
 }
 
 // The order of the packages of two conflicts: ours, or theirs where we have none.
-fn cmp_conflicts(one: &PlaceConflict, other: &PlaceConflict) -> Ordering {
+pub(crate) fn cmp_conflicts(one: &PlaceConflict, other: &PlaceConflict) -> Ordering {
     match (one.ours.or(one.theirs), other.ours.or(other.theirs)) {
         (Some(one), Some(other)) => cmp_identities(one, other),
         _ => Ordering::Equal,
@@ -212,14 +213,7 @@ fn line_of<'a>(conflict: PlaceConflict<'a>) -> Line<'a>
         },
         (Kind::Package, Some(only), None) => source_line(only, conflict.source),
         (Kind::Package, None, Some(only)) => source_line(only, conflict.source),
-        (Kind::Checksum, Some(ours), Some(theirs)) => Line {
-            subject: Subject::Checksum(ours),
-            values: Values {
-                old: checksum_if(same_if(conflict.base, ours)),
-                ours: Value::Checksum(ours),
-                theirs: Value::Checksum(theirs),
-            },
-        },
+        (Kind::Checksum, _, _) => checksum_line(conflict, conflict.chosen),
         (Kind::Replacement, Some(ours), Some(theirs)) => Line {
             subject: Subject::Replacement(ours),
             values: Values {
@@ -232,6 +226,35 @@ fn line_of<'a>(conflict: PlaceConflict<'a>) -> Line<'a>
             subject: Subject::Nothing,
             values: absent(),
         },
+    }
+}
+
+// The line of the checksums that the identity of the chosen package has.
+fn checksum_line<'a>(conflict: PlaceConflict<'a>, chosen: Option<&'a Package>) -> Line<'a>
+    ensures { result ≡ checksum_line conflict.entry chosen.entry }
+{
+    match chosen {
+        Some(chosen) => Line {
+            subject: Subject::Checksum(chosen),
+            values: Values {
+                old: checksum_if(same_if(conflict.base, chosen)),
+                ours: checksum_value(same_if(conflict.ours, chosen)),
+                theirs: checksum_value(same_if(conflict.theirs, chosen)),
+            },
+        },
+        None => Line {
+            subject: Subject::Nothing,
+            values: absent(),
+        },
+    }
+}
+
+fn checksum_value<'a>(package: Option<&'a Package>) -> Value<'a>
+    ensures { result ≡ checksum_value «package».entry }
+{
+    match package {
+        Some(package) => Value::Checksum(package),
+        None => Value::Absent,
     }
 }
 

@@ -42,6 +42,10 @@ merged_of-requires-clause-ours c = listed (all_data c.args.ours.now) c.requires.
 pub merged_of-requires-clause-theirs : goal.merged_of-requires-clause-theirs
 merged_of-requires-clause-theirs c = listed (all_data c.args.theirs.now) c.requires.theirs
 
+pub merged_of-requires-clause-plan : goal.merged_of-requires-clause-plan
+merged_of-requires-clause-plan c =
+    has-plan (numbered_triple c.args.base.now c.args.ours.now c.args.theirs.now) c.in_ok-plan.plan c.requires c.in_ok-plan.ensures.ok
+
 pub conflicts_of-requires : goal.conflicts_of-requires
 conflicts_of-requires c =
     has-plan (numbered_triple c.args.base.now c.args.ours.now c.args.theirs.now) c.in_ok-plan.plan c.requires c.in_ok-plan.ensures.ok
@@ -54,7 +58,7 @@ returns-in-Some-clause-ok c =
     let merge = matched ((m : List (PlacedData ℕ)) → ¬ IsMerge s m) (λ v. IsMerge s (map merged_data v.items)) c.in_ok-merged.field-0 c.in-Some.merged c.in-Some.is
     (c.in_ok-merged.ensures.merge s plan) in
     IfOk-weaker c.merged_of.result _ _
-    (λ v h. is-outcome s (map merged_data ms) v merge (subst (λ (zs : List Merged). IsMergedOf s.ours s.theirs (map merged_data zs) v) c.deref.ensures.value h))
+    (λ v h. is-outcome s (map merged_data ms) v merge (subst (λ (zs : List Merged). IsMergedOf s (map merged_data zs) v) c.deref.ensures.value h))
     c.merged_of.ensures.ok
 
 pub returns-clause-ok : goal.returns-clause-ok

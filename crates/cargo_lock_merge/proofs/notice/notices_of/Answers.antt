@@ -1,0 +1,26 @@
+use Rattle.std.proofs.Common.{◌≡◌, ◌∙◌, ◌++◌, List, ap, subst}
+use Rattle.std.specs.List.Sorted.{IsPermutation}
+use Rattle.cargo_lock_merge_core.specs.declared.conflicts.Conflict as merging
+use Rattle.cargo_lock_merge_core.specs.Merge.{Triple, lockfiles_of}
+use Rattle.cargo_lock_merge_core.specs.Plans.{numbered_triple}
+use Rattle.cargo_lock_merge.proofs.Conflicting.{are-notices}
+use Rattle.cargo_lock_merge.proofs.notice.notices_of.Goals as goal
+
+pub of-requires-clause-base : goal.of-requires-clause-base
+of-requires-clause-base c = c.requires.base.commits
+
+pub of-requires-clause-ours : goal.of-requires-clause-ours
+of-requires-clause-ours c = c.requires.ours.commits
+
+pub of-requires-clause-theirs : goal.of-requires-clause-theirs
+of-requires-clause-theirs c = c.requires.theirs.commits
+
+pub returns-clause-ok : goal.returns-clause-ok
+returns-clause-ok c =
+    let s : Triple _ = numbered_triple c.args.base.now c.args.ours.now c.args.theirs.now in
+    let same : c.in_ok-commits.commits ≡ lockfiles_of s = c.in_ok-commits.ensures.ok in
+    let vs : List merging.Conflict = c.in_ok-all.all.items in
+    let ls : List merging.Conflict = c.in_ok-conflicts.field-0.items in
+    let joined : c.extend_from_slice.new.self.items ≡ vs ++ ls = c.in_ok-extend_from_slice.ensures.items ∙ ap (λ (zs : List merging.Conflict). vs ++ zs) c.deref.ensures.value in
+    are-notices s vs ls (c.in_ok-all.ensures.ok s c.requires same) (c.in_ok-conflicts.ensures.ok s c.requires same) c.sort_by.new.self.items
+    (subst (λ (zs : List merging.Conflict). IsPermutation zs c.sort_by.new.self.items) joined c.in_ok-sort_by.ensures.permutation)
