@@ -57,6 +57,7 @@ OF_PROGRAM = [
         ("verify", "folders of archives"),
         ("licenses", "folders of manifests"),
         ("audit", "folders of advisories"),
+        ("spellings", "what the commands take for crates.io"),
         ("install", "what ./install leaves"),
         ("try", "when ./try builds, and what it passes on"),
         ("completions", "TAB in bash, zsh and fish"),
