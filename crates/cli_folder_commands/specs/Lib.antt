@@ -5,6 +5,7 @@ pub mod Folders
 pub mod Json
 pub mod Texts
 pub mod Policy
+pub mod Reasoned
 pub mod Settings
 pub mod Licenses
 pub mod Verify

@@ -9,6 +9,7 @@ mod folders;
 pub mod json;
 pub mod licenses;
 mod policy;
+mod reasoned;
 mod settings;
 mod texts;
 pub mod verify;
