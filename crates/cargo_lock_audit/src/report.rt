@@ -286,8 +286,27 @@ impl fmt::Display for Report<'_, '_, '_> {
 
     fn fmt<W: fmt::Write>(&self, f: &mut fmt::Formatter<W>) -> fmt::Result {
         write_findings(&self.findings, f)?;
-        write_unmet(&self.unmet, f)?;
-        let coverage = &self.coverage;
+        let rest = RestOfReport(self);
+        write!(f, "{rest}")
+    }
+}
+
+/// The lines of a report behind those of its findings, each with its newline: what was ignored in vain,
+/// and what was compared.
+#[derive(Clone, Copy)]
+pub struct RestOfReport<'r, 'p, 'a, 'i>(pub &'r Report<'p, 'a, 'i>);
+
+impl fmt::Display for RestOfReport<'_, '_, '_, '_> {
+    ghost use Rattle.std.specs.Prelude.{Some};
+    ghost use Rattle.cargo_lock_audit.specs.Lines.{rest_of_report_text};
+    ghost use Rattle.cargo_lock_audit.specs.Report.{report_data_of};
+
+    ghost output = { λ rest. Some (rest_of_report_text (report_data_of rest.0.now)) };
+
+    fn fmt<W: fmt::Write>(&self, f: &mut fmt::Formatter<W>) -> fmt::Result {
+        let RestOfReport(report) = *self;
+        write_unmet(&report.unmet, f)?;
+        let coverage = &report.coverage;
         write!(f, "{coverage}\n")
     }
 }

@@ -3,9 +3,8 @@ use Rattle.std.specs.Prelude.{◌≡◌, ◌++◌, [], ◌∷◌, ℕ, All, List
 use Rattle.std.specs.Prelude.{option_map, position}
 use Rattle.std.specs.Io.KnownBytes.{Appends}
 use Rattle.std.specs.List.{flat_map}
-use Rattle.cargo_lock_audit.specs.Coverage.{coverage_line}
 use Rattle.cargo_lock_audit.specs.Findings.{AdvisoryFindingData, advisory_finding_of}
-use Rattle.cargo_lock_audit.specs.Lines.{advisory_finding_line, unmet_text}
+use Rattle.cargo_lock_audit.specs.Lines.{advisory_finding_line, rest_of_report_text}
 use Rattle.cargo_lock_audit.specs.Report.{ReportData}
 use Rattle.cargo_lock_edges.specs.OwnGraph.{IsOwnGraph}
 use Rattle.cargo_lock_graph.specs.Edges.{GraphData}
@@ -69,8 +68,7 @@ reasoned_text list = flat_map (λ r. reasoned_lines list r ++ newline ∷ [])
 
 -- the report with these lines in place of those of its findings
 abbrev pub reasoned_report_text : List PackageData → List ReasonedData → ReportData → List ℕ
-reasoned_report_text list reasoned told = reasoned_text list reasoned
-    ++ (unmet_text told.unmet ++ (coverage_line told.coverage ++ newline ∷ []))
+reasoned_report_text list reasoned told = reasoned_text list reasoned ++ rest_of_report_text told
 
 -- a report on packages is printed, and below each finding why its package is among them
 abbrev pub PrintsReasoned : List PackageData → ReportData → Option (List ℕ) → Option (List ℕ) → Type 0

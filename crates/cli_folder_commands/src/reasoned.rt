@@ -1,22 +1,18 @@
 //! Why the packages of findings are in a lockfile, as `audit --why` prints it.
 ghost use Rattle.std.specs.Prelude.{◌≡◌, All, IfOk, OnOk, Some, map, option_map};
 ghost use Rattle.std.specs.Fmt.{DisplaysOnOk};
-ghost use Rattle.std.specs.List.{flat_map};
-ghost use Rattle.cargo_lock_audit.specs.Findings.{advisory_finding_of, id_of};
-ghost use Rattle.cargo_lock_audit.specs.Lines.{unmet_text};
+ghost use Rattle.cargo_lock_audit.specs.Findings.{advisory_finding_of};
 ghost use Rattle.cargo_lock_audit.specs.Report.{report_data_of};
 ghost use Rattle.cargo_lock_edges.specs.OwnGraph.{IsOwnGraph};
-ghost use Rattle.cargo_lock_query.specs.Lines.{needer_line};
 ghost use Rattle.cli_folder_commands.specs.Reasoned.{AreNeedersAt, IsReasoned, PrintsReasoned};
-ghost use Rattle.cli_folder_commands.specs.Reasoned.{first_like, reason_lines, reasoned_of};
+ghost use Rattle.cli_folder_commands.specs.Reasoned.{first_like, reasoned_of};
 ghost use Rattle.cli_folder_commands.specs.Reasoned.{reasoned_text};
 
-use cargo_lock::dependency::graph::Graph;
+use cargo_lock::dependency::graph::{Graph, NodeIndex};
 use cargo_lock::package::Package;
-use cargo_lock_audit::{Finding, Report, Unmet};
-use cargo_lock_display::PackageAmong;
+use cargo_lock_audit::{Finding, Report, RestOfReport};
 use cargo_lock_edges::own_graph;
-use cargo_lock_query::{needers_of_chain, why};
+use cargo_lock_query::{Needers, needers_of_chain, why};
 use cargo_lock_references::index::Indexed;
 use cli_support::Fault;
 use cli_support::output::put;
@@ -97,7 +93,7 @@ fn needers_of<'g>(
     let Some(node) = place_of(packages, package) else {
         return Ok(None);
     };
-    match why(alloc, graph, node)? {
+    match why(alloc, graph, NodeIndex::new(node))? {
         Some(chain) => Ok(Some(needers_of_chain(alloc, graph, &chain)?)),
         None => Ok(None),
     }
@@ -140,9 +136,8 @@ impl fmt::Display for ReasonedReport<'_, '_, '_, '_, '_> {
             report,
         } = *self;
         write_all_reasoned(list, reasoned, f)?;
-        write_vain(&report.unmet, f)?;
-        let coverage = &report.coverage;
-        write!(f, "{coverage}\n")
+        let rest = RestOfReport(report);
+        write!(f, "{rest}")
     }
 }
 
@@ -163,17 +158,6 @@ fn write_all_reasoned<W: fmt::Write>(
     Ok(())
 }
 
-/// Writes the line of each text that was ignored in vain.
-fn write_vain<W: fmt::Write>(all: &[Unmet<'_>], f: &mut fmt::Formatter<W>) -> fmt::Result
-    ensures { DisplaysOnOk W.write_str_gives f.old result
-        (Some (unmet_text (map id_of all.now))) f.new }
-{
-    for unmet in all {
-        write!(f, "{unmet}\n")?;
-    }
-    Ok(())
-}
-
 /// The lines below a finding, each after a newline.
 #[derive(Clone, Copy)]
 struct ReasonText<'r, 'g>(&'r Indexed<'g, Package>, &'r Option<Vec<&'g Package>>);
@@ -188,24 +172,11 @@ impl fmt::Display for ReasonText<'_, '_> {
     fn fmt<W: fmt::Write>(&self, f: &mut fmt::Formatter<W>) -> fmt::Result {
         let ReasonText(list, needers) = *self;
         match needers {
-            Some(needers) => write_needers(list, needers, f),
+            Some(needers) => {
+                let needers = Needers(list, needers);
+                write!(f, "{needers}")
+            }
             None => f.write_str("\n  nothing leads to it"),
         }
     }
-}
-
-/// Writes a line for each package that needs the one of the line before.
-fn write_needers<W: fmt::Write>(
-    list: &Indexed<'_, Package>,
-    needers: &[&Package],
-    f: &mut fmt::Formatter<W>,
-) -> fmt::Result
-    ensures { DisplaysOnOk W.write_str_gives f.old result
-        (Some (flat_map (needer_line list.now) (map (λ p. p.now) needers.now))) f.new }
-{
-    for needer in needers {
-        let needer = PackageAmong(list, needer);
-        write!(f, "\n  needed by {needer}")?;
-    }
-    Ok(())
 }
