@@ -10,7 +10,7 @@ ghost use Rattle.cli_folder_commands.specs.Reasoned.{reasoned_text};
 
 use cargo_lock::dependency::graph::{Graph, NodeIndex};
 use cargo_lock::package::Package;
-use cargo_lock_audit::{Finding, Report, RestOfReport};
+use cargo_lock_audit::{Finding, Report, write_rest};
 use cargo_lock_edges::own_graph;
 use cargo_lock_query::{Needers, needers_of_chain, why};
 use cargo_lock_references::index::Indexed;
@@ -110,18 +110,18 @@ fn place_of(packages: &[Package], package: &Package) -> Option<usize>
 
 /// A report with why the package of each finding is there.
 #[derive(Clone, Copy)]
-struct ReasonedReport<'r, 'p, 'a, 'g, 'i> {
+struct ReasonedReport<'a> {
     /// The packages among which a version may be unique.
-    list: &'r Indexed<'g, Package>,
+    list: &'a Indexed<'a, Package>,
 
     /// The findings.
-    reasoned: &'r Vec<Reasoned<'p, 'a, 'g>>,
+    reasoned: &'a Vec<Reasoned<'a, 'a, 'a>>,
 
     /// The rest of it.
-    report: &'r Report<'p, 'a, 'i>,
+    report: &'a Report<'a, 'a, 'a>,
 }
 
-impl fmt::Display for ReasonedReport<'_, '_, '_, '_, '_> {
+impl fmt::Display for ReasonedReport<'_> {
     ghost use Rattle.std.specs.Prelude.{Some, map};
     ghost use Rattle.cargo_lock_audit.specs.Report.{report_data_of};
     ghost use Rattle.cli_folder_commands.specs.Reasoned.{reasoned_of, reasoned_report_text};
@@ -136,15 +136,14 @@ impl fmt::Display for ReasonedReport<'_, '_, '_, '_, '_> {
             report,
         } = *self;
         write_all_reasoned(list, reasoned, f)?;
-        let rest = RestOfReport(report);
-        write!(f, "{rest}")
+        write_rest(report, f)
     }
 }
 
 /// Writes the lines of each finding, and why its package is there.
-fn write_all_reasoned<W: fmt::Write>(
-    list: &Indexed<'_, Package>,
-    all: &[Reasoned<'_, '_, '_>],
+fn write_all_reasoned<'a, W: fmt::Write>(
+    list: &'a Indexed<'a, Package>,
+    all: &'a [Reasoned<'a, 'a, 'a>],
     f: &mut fmt::Formatter<W>,
 ) -> fmt::Result
     ensures { DisplaysOnOk W.write_str_gives f.old result
@@ -160,9 +159,9 @@ fn write_all_reasoned<W: fmt::Write>(
 
 /// The lines below a finding, each after a newline.
 #[derive(Clone, Copy)]
-struct ReasonText<'r, 'g>(&'r Indexed<'g, Package>, &'r Option<Vec<&'g Package>>);
+struct ReasonText<'a>(&'a Indexed<'a, Package>, &'a Option<Vec<&'a Package>>);
 
-impl fmt::Display for ReasonText<'_, '_> {
+impl fmt::Display for ReasonText<'_> {
     ghost use Rattle.std.specs.Prelude.{Some, map, option_map};
     ghost use Rattle.cli_folder_commands.specs.Reasoned.{reason_lines};
 
