@@ -8,6 +8,7 @@ pub mod bom;
 mod folders;
 pub mod json;
 pub mod licenses;
+mod part;
 mod policy;
 mod reasoned;
 mod settings;
