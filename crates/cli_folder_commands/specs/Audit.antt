@@ -1,5 +1,5 @@
 -- What `audit` prints, and its status.
-use Rattle.std.specs.Prelude.{◌≡◌, ◌<◌, [], ◌∷◌, ℕ, List, Option, None, Some, codes, false}
+use Rattle.std.specs.Prelude.{◌≡◌, ◌<◌, [], ◌∷◌, ℕ, Bool, List, Option, None, Some, codes, false}
 use Rattle.std.specs.Prelude.{option_map, true}
 use Rattle.std.specs.List.{list_any}
 use Rattle.clap.specs.Matches.{first_value}
@@ -16,10 +16,12 @@ use Rattle.cargo_lock_encoding.specs.Lockfiles.{LockfileData}
 use Rattle.cargo_lock_encoding.specs.Means.{TextMeans}
 use Rattle.cargo_lock_audit.specs.Document.{advisories_json}
 use Rattle.cargo_lock_parts.specs.Identity.{PackageData}
+use Rattle.cli_input.specs.Json.{IsFlag}
 use Rattle.cli_input.specs.Told.{IsReportPath, LockfileFound, PrintsFound, SubjectData}
 use Rattle.cli_input.specs.Told.{found_in_lockfile}
 use Rattle.cli_input.specs.Told.{subject_of_lockfile}
 use Rattle.cli_support.specs.Input.{given_path_in}
+use Rattle.cli_folder_commands.specs.Reasoned.{PrintsReasoned}
 use Rattle.cli_folder_commands.specs.Settings.{AreSettings}
 
 -- what is found by a report on a lockfile
@@ -28,10 +30,21 @@ found_by_audit s told = found_in_lockfile s (audit_report_text told)
     (λ file lines. advisories_json file lines told)
     (λ path lines. reported_advisories path lines told.findings)
 
+-- a report is printed: with why the package of each finding is there, or as the arguments ask for it
+abbrev pub PrintsByWhy : (is_asked : Bool) → Found → SubjectData → ReportData → Option (List ℕ)
+    → Option (List ℕ) → Type 0
+PrintsByWhy true found s told old new = PrintsReasoned s.packages told old new
+PrintsByWhy false found s told old new = PrintsFound found (found_by_audit s told ∷ []) old new
+
+-- the same by the arguments
+abbrev pub PrintsAsAsked : Found → SubjectData → ReportData → Option (List ℕ) → Option (List ℕ) → Type 0
+PrintsAsAsked found s told old new = (is_asked : Bool) × IsFlag found (codes "why") is_asked
+    × PrintsByWhy is_asked found s told old new
+
 -- a report is printed, with the status of its findings
 pub record PrintsAudited (found : Found) (s : SubjectData) (told : ReportData)
     (old new : Option (List ℕ)) (failure success : Type 0) : Type 0 where
-  pub printed : PrintsFound found (found_by_audit s told ∷ []) old new
+  pub printed : PrintsAsAsked found s told old new
   pub some : list_any (λ f. f.is_denied) told.findings ≡ true → failure
   pub none : list_any (λ f. f.is_denied) told.findings ≡ false → success
 

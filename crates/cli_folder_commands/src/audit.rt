@@ -1,6 +1,6 @@
 //! The command `audit`: which packages of a lockfile have a known vulnerability, by a folder of
 //! advisories.
-ghost use Rattle.std.specs.Prelude.{◌≡◌, IfOk, codes, option_copied};
+ghost use Rattle.std.specs.Prelude.{◌≡◌, IfOk, OnOk, codes, option_copied};
 ghost use Rattle.std.specs.List.{list_any};
 ghost use Rattle.clap.specs.Matches.{first_value, found_of};
 ghost use Rattle.cargo_lock_audit.specs.Audited.{audited_of};
@@ -8,11 +8,12 @@ ghost use Rattle.cargo_lock_audit.specs.Database.{AreInOrderOfIds};
 ghost use Rattle.cargo_lock_audit.specs.Report.{report_data_of};
 ghost use Rattle.cargo_lock_audit.specs.Settings.{settings_of};
 ghost use Rattle.cli_folder_commands.specs.Audit.{IsOlder, IsSomeDatabase, PrintsAudit};
-ghost use Rattle.cli_folder_commands.specs.Audit.{PrintsAuditOf, PrintsAuditReport};
+ghost use Rattle.cli_folder_commands.specs.Audit.{PrintsAsAsked, PrintsAuditOf, PrintsAuditReport};
 ghost use Rattle.cli_folder_commands.specs.Audit.{PrintsAuditSince, packages_before};
 ghost use Rattle.cli_input.specs.Told.{subject_of};
 
 use crate::folders::folder;
+use crate::reasoned::print_reasoned;
 use crate::settings::settings_of;
 use crate::texts;
 use crate::texts::with_forms;
@@ -25,7 +26,7 @@ use cli_folders::{AdvisoryFiles, advisory_files, database_fault};
 use cli_input::findings::print_findings;
 use cli_input::load::{file, lockfile_with_text, named_lockfile};
 use cli_input::subject::{Subject, report_path};
-use cli_support::words::{any_size, is_standard};
+use cli_support::words::{any_size, is_standard, long_flag};
 use cli_support::{Fault, words};
 use std::alloc::{AllocError, Global};
 use std::env::Env;
@@ -43,6 +44,9 @@ Each advisory that concerns a package of crates.io has a line, for each such pac
 The last line says how many packages were compared with how many advisories of FOLDER, and how many \
 were not, since they are neither of crates.io nor of a registry of `--registry`:
   39 packages of crates.io compared with 812 advisories; not compared: 2 from git
+With `--why` the lines of `cargo-lock why` stand below each finding, without the first one:
+    needed by NAME VERSION      a package that depends on the one of the line before
+    nothing leads to it         no root does, and no package without a source
 
 An advisory concerns a package with its name whose version lies in none of the requirements of \
 `patched` and `unaffected`, by the precedence of SemVer: `1.6.1-rc.1` is before `1.6.1`. One that \
@@ -72,6 +76,8 @@ const REGISTRY_HELP: &str =
 
 const SINCE_HELP: &str = "Counts only what this older lockfile does not have; - for standard input";
 
+const WHY_HELP: &str = "Prints below each finding the packages through which it is needed";
+
 /// The kinds of informational advisories that RustSec has, and the word for all of them.
 const KINDS: [&str; 4] = ["unmaintained", "unsound", "notice", "warnings"];
 
@@ -79,7 +85,8 @@ const KINDS: [&str; 4] = ["unmaintained", "unsound", "notice", "warnings"];
 pub fn command<'a>(alloc: Global) -> Result<Command<'a>, AllocError> {
     let command = with_inputs(alloc)?;
     let command = with_settings(alloc, command)?;
-    with_forms(alloc, command.arg(since_option(alloc))?)
+    let command = command.arg(since_option(alloc))?;
+    with_forms(alloc, command.arg(why_option(alloc)?)?)
 }
 
 /// The parser with the options for the lockfile and for the advisories.
@@ -120,6 +127,14 @@ fn since_option<'a>(alloc: Global) -> Arg<'a> {
         .allow_hyphen_values(true)
         .action(ArgAction::Set)
         .help(SINCE_HELP)
+}
+
+/// The option to print why packages are there. It is one of lines alone.
+fn why_option<'a>(alloc: Global) -> Result<Arg<'a>, AllocError> {
+    long_flag(alloc, "why")?
+        .help(WHY_HELP)
+        .conflicts_with("json")?
+        .conflicts_with("format")
 }
 
 /// Prints which advisories concern packages of the lockfile, a line for each, and what was
@@ -277,8 +292,26 @@ fn print_report<W: Write>(
         (status ≡ ExitCode.FAILURE) (status ≡ ExitCode.SUCCESS)) }
 {
     let report = Report::of(alloc, audited, database, settings)?;
-    print_findings(alloc, options, subject, &report, out)?;
+    print_as_asked(alloc, options, subject, &report, out)?;
     Ok(status_of(!is_denied(&report)))
+}
+
+/// Prints a report, with why the package of each finding is there if the arguments ask for that.
+fn print_as_asked<W: Write>(
+    alloc: Global,
+    options: &ArgMatches<'_>,
+    subject: Subject<'_>,
+    report: &Report<'_, '_, '_>,
+    out: &mut W,
+) -> Result<(), Fault>
+    ensures { OnOk result (PrintsAsAsked (found_of options.now) (subject_of subject.entry)
+        (report_data_of report.now) (W.contents out.old) (W.contents out.new)) }
+{
+    if options.get_flag("why") {
+        print_reasoned(alloc, subject.packages, report, out)
+    } else {
+        print_findings(alloc, options, subject, report, out)
+    }
 }
 
 /// Whether a finding is denied.
