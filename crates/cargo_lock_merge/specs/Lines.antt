@@ -91,19 +91,19 @@ other_commit_line p None = record { subject = subject.Source p; values = absent 
 other_commit_line p (Some c) = record { subject = subject.Source p; values = commit_values None c }
 
 -- the checksum of a package, or none where there is no package
-abbrev pub checksum_value : Option (Bor PackageData) → Value
-checksum_value None = value.Absent
-checksum_value (Some p) = value.Checksum p
+abbrev pub side_checksum : Option (Bor PackageData) → Value
+side_checksum None = value.Absent
+side_checksum (Some p) = value.Checksum p
 
 -- of the checksums that the identity of the chosen package has
-abbrev pub checksum_line : merging.Conflict → Option (Bor PackageData) → Line
-checksum_line c None = record { subject = subject.Nothing; values = absent }
-checksum_line c (Some x) = record {
+abbrev pub two_checksums_line : merging.Conflict → Option (Bor PackageData) → Line
+two_checksums_line c None = record { subject = subject.Nothing; values = absent }
+two_checksums_line c (Some x) = record {
   subject = subject.Checksum x;
   values = record {
     old = checksum_of_side (same_if c.base x.now);
-    ours = checksum_value (same_if c.ours x.now);
-    theirs = checksum_value (same_if c.theirs x.now);
+    ours = side_checksum (same_if c.ours x.now);
+    theirs = side_checksum (same_if c.theirs x.now);
   };
 }
 
@@ -120,7 +120,7 @@ line_by kind.Package (Some o) (Some t) c = record {
 }
 line_by kind.Package (Some o) None c = other_commit_line o c.source
 line_by kind.Package None (Some t) c = other_commit_line t c.source
-line_by kind.Checksum o t c = checksum_line c c.chosen
+line_by kind.Checksum o t c = two_checksums_line c c.chosen
 line_by kind.Replacement (Some o) (Some t) c = record {
   subject = subject.Replacement o;
   values = record {

@@ -7,8 +7,8 @@ ghost use Rattle.cargo_lock_merge_core.specs.Merged.{HasPlan};
 ghost use Rattle.cargo_lock_merge_core.specs.Plans.{numbered_triple};
 ghost use Rattle.cargo_lock_merge.specs.Conflict.{AreConflictsAtPlaces, AreConflictsOf};
 ghost use Rattle.cargo_lock_merge.specs.declared.conflict.Conflict.TheVariants.{AtPlace, OfSource};
-ghost use Rattle.cargo_lock_merge.specs.Lines.{absent, checksum_line, checksum_of_side};
-ghost use Rattle.cargo_lock_merge.specs.Lines.{checksum_value, commit_value, commit_values, line_of};
+ghost use Rattle.cargo_lock_merge.specs.Lines.{absent, two_checksums_line, checksum_of_side};
+ghost use Rattle.cargo_lock_merge.specs.Lines.{side_checksum, commit_value, commit_values, line_of};
 ghost use Rattle.cargo_lock_merge.specs.Lines.{other_commit_line};
 ghost use Rattle.cargo_lock_merge.specs.Lines.{replacement_value, same_if};
 ghost use Rattle.cargo_lock_merge.specs.declared.words.Value.TheVariants.{Version};
@@ -213,7 +213,7 @@ fn line_of<'a>(conflict: PlaceConflict<'a>) -> Line<'a>
         },
         (Kind::Package, Some(only), None) => source_line(only, conflict.source),
         (Kind::Package, None, Some(only)) => source_line(only, conflict.source),
-        (Kind::Checksum, _, _) => checksum_line(conflict, conflict.chosen),
+        (Kind::Checksum, _, _) => two_checksums_line(conflict, conflict.chosen),
         (Kind::Replacement, Some(ours), Some(theirs)) => Line {
             subject: Subject::Replacement(ours),
             values: Values {
@@ -230,16 +230,16 @@ fn line_of<'a>(conflict: PlaceConflict<'a>) -> Line<'a>
 }
 
 // The line of the checksums that the identity of the chosen package has.
-fn checksum_line<'a>(conflict: PlaceConflict<'a>, chosen: Option<&'a Package>) -> Line<'a>
-    ensures { result ≡ checksum_line conflict.entry chosen.entry }
+fn two_checksums_line<'a>(conflict: PlaceConflict<'a>, chosen: Option<&'a Package>) -> Line<'a>
+    ensures { result ≡ two_checksums_line conflict.entry chosen.entry }
 {
     match chosen {
         Some(chosen) => Line {
             subject: Subject::Checksum(chosen),
             values: Values {
                 old: checksum_if(same_if(conflict.base, chosen)),
-                ours: checksum_value(same_if(conflict.ours, chosen)),
-                theirs: checksum_value(same_if(conflict.theirs, chosen)),
+                ours: side_checksum(same_if(conflict.ours, chosen)),
+                theirs: side_checksum(same_if(conflict.theirs, chosen)),
             },
         },
         None => Line {
@@ -249,8 +249,8 @@ fn checksum_line<'a>(conflict: PlaceConflict<'a>, chosen: Option<&'a Package>) -
     }
 }
 
-fn checksum_value<'a>(package: Option<&'a Package>) -> Value<'a>
-    ensures { result ≡ checksum_value «package».entry }
+fn side_checksum<'a>(package: Option<&'a Package>) -> Value<'a>
+    ensures { result ≡ side_checksum «package».entry }
 {
     match package {
         Some(package) => Value::Checksum(package),

@@ -4,7 +4,7 @@ use Rattle.cargo_lock_parts.specs.Identity.{identity_key}
 use Rattle.cargo_lock_merge_core.specs.ByPlaces.{AreAllPlaced}
 use Rattle.cargo_lock_merge_core.specs.Choices.{IsChecksum, checksum_if, if_same}
 use Rattle.cargo_lock_merge_core.specs.LawsOfMerges.{triple}
-use Rattle.cargo_lock_merge_core.specs.Origins.{ChecksumsAreListed, HasChecksumAt, MergeOfListsWithBase, MergeOfListsWithItself, lists}
+use Rattle.cargo_lock_merge_core.specs.Origins.{ChecksumsAreListed, ListsChecksum, MergeOfListsWithBase, MergeOfListsWithItself, lists}
 use Rattle.cargo_lock_merge_core.specs.Placed.{HasOneAtEach, IsAt, PlacedData, key}
 use Rattle.cargo_lock_merge_core.specs.Places.{Place}
 use Rattle.cargo_lock_merge_core.proofs.Listings.{one-merge}
@@ -17,12 +17,12 @@ use Rattle.cargo_lock_merge_core.proofs.Unchanged.{checksum-from, checksum-to, e
 
 -- a list has the checksum of what it has at the place of x
 listed-at : (xs : List (PlacedData Place)) (x c : PlacedData Place) (o : Option (PlacedData Place)) (d : List ℕ) → key c ≡ key x → IsAt xs x.place o → checksum_if (if_same c o) ≡ Some d
-    → HasChecksumAt xs x d
+    → ListsChecksum xs x d
 listed-at xs x c o d same at e =
     let (y, is, alike, checksum) = checksum-from c o d e in
     (y, subst (IsAt xs x.place) is at, alike ∙ same, checksum)
 
-at-listed : (xs : List (PlacedData Place)) → HasOneAtEach xs → (x c : PlacedData Place) (o : Option (PlacedData Place)) (d : List ℕ) → key c ≡ key x → IsAt xs x.place o → HasChecksumAt xs x d
+at-listed : (xs : List (PlacedData Place)) → HasOneAtEach xs → (x c : PlacedData Place) (o : Option (PlacedData Place)) (d : List ℕ) → key c ≡ key x → IsAt xs x.place o → ListsChecksum xs x d
     → checksum_if (if_same c o) ≡ Some d
 at-listed xs one x c o d same at (y, here, alike, checksum) =
     ap (λ (w : Option (PlacedData Place)). checksum_if (if_same c w)) (at-same xs one x.place o (Some y) at here)

@@ -14,14 +14,14 @@ use Rattle.cargo_lock_merge_core.specs.Places.{IsMergeOf, Place}
 -- ---- checksums
 
 -- the list has a package with the key of x and with this checksum at its place
-abbrev pub HasChecksumAt : List (PlacedData Place) → PlacedData Place → List ℕ → Type 0
-HasChecksumAt xs x c = (y : PlacedData Place) × HasAt xs x.place y × (key y ≡ key x)
+abbrev pub ListsChecksum : List (PlacedData Place) → PlacedData Place → List ℕ → Type 0
+ListsChecksum xs x c = (y : PlacedData Place) × HasAt xs x.place y × (key y ≡ key x)
     × (y.content.checksum ≡ Some c)
 
 -- one of the three lists has
 abbrev pub IsListedChecksum : Triple Place → PlacedData Place → List ℕ → Type 0
-IsListedChecksum s x c = HasChecksumAt s.base x c
-    ⊎ (HasChecksumAt s.ours x c ⊎ HasChecksumAt s.theirs x c)
+IsListedChecksum s x c = ListsChecksum s.base x c
+    ⊎ (ListsChecksum s.ours x c ⊎ ListsChecksum s.theirs x c)
 
 -- A merged package has a checksum exactly if one of the three lists has it for the same identity. So
 -- no merged checksum differs from one of a list, and none that a list has is lost.
