@@ -8,7 +8,7 @@ use Rattle.cargo_lock_parts.specs.Identity.{Identity, PackageData, identity_key,
 use Rattle.cargo_lock_parts.specs.IdentityOrder.{is_same_identity, version_cmp}
 use Rattle.cargo_lock_parts.specs.SourceKey.{Key}
 use Rattle.cargo_lock_merge_core.specs.ByPlaces.{AreAllPlaced}
-use Rattle.cargo_lock_merge_core.specs.Choices.{AreAbove, AreOfGit, AreOfMember, Counts, DependsOn, HasLostChecksum, HasLowerVersion, HasTwoNewVersions, IsWithoutChecksum, IsByCommit, IsByRule, IsChecksum, IsChecksumConflict, IsChosen, IsClash, IsDependency, IsDependencyOf, IsGreater, IsOfGit, IsOfRegistry, IsOfSide, IsReplacement, IsReplacementConflict, IsVersionDecisive, checksum_if, if_same, replacement_if}
+use Rattle.cargo_lock_merge_core.specs.Choices.{AreAbove, AreOfGit, AreOfMember, Counts, DependsOn, HasLostChecksum, HasLowerVersion, HasTwoNewVersions, HasNoChecksumFor, IsByCommit, IsByRule, IsChecksum, IsChecksumConflict, IsChosen, IsClash, IsDependency, IsDependencyOf, IsGreater, IsOfGit, IsOfRegistry, IsOfSide, IsReplacement, IsReplacementConflict, IsVersionDecisive, checksum_if, if_same, replacement_if}
 use Rattle.cargo_lock_edges.specs.Nearest.{key_without_commit}
 use Rattle.cargo_lock_merge_core.specs.Commits.{HasCommit, IsAtMergedCommit, IsAtSource, IsCommitIn, IsSourceConflict, Lockfiles, git_in}
 use Rattle.cargo_lock_merge_core.specs.Linked.{IsStatedAt}
@@ -334,7 +334,7 @@ module _ {P : Type 0} where
     checksum-dispute-like : IsChecksumConflict b o t x → IsChecksumConflict b' o' t' x'
     checksum-dispute-like h = two-cast _ _ _ _ _ _ (same-checksum b b' lb) (same-checksum o o' lo) (same-checksum t t' lt) h
 
-    lacks-like : (w w' : Option (PlacedData P)) → IsLikeIf w w' → IsWithoutChecksum x w → IsWithoutChecksum x' w'
+    lacks-like : (w w' : Option (PlacedData P)) → IsLikeIf w w' → HasNoChecksumFor x w → HasNoChecksumFor x' w'
     lacks-like w w' lw (y, is, none) = by (if_same x' w') refl
       where
         -- whether there is such a package, and whether it has no checksum
@@ -346,7 +346,7 @@ module _ {P : Type 0} where
         absent None e = refl
         absent (Some c) e = absurd (cc e)
 
-        by : (o : Option (PlacedData P)) → if_same x' w' ≡ o → IsWithoutChecksum x' w'
+        by : (o : Option (PlacedData P)) → if_same x' w' ≡ o → HasNoChecksumFor x' w'
         by None e = let n = sym same ∙ ap (option_map (λ (v : PlacedData P). is_none v.content.checksum)) e in absurd (cc n)
         by (Some v) e = (v, e, absent v.content.checksum (same_Some (is_none v.content.checksum) true (sym (ap (option_map (λ (v : PlacedData P). is_none v.content.checksum)) e) ∙ same)))
 

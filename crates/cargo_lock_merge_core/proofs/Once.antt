@@ -8,7 +8,7 @@ use Rattle.std.proofs.lemmas.Option.{same_Some}
 use Rattle.cargo_lock_parts.specs.Identity.{Identity, identity_of}
 use Rattle.cargo_lock_parts.specs.IdentityLaws.{is_same_identity-Decides, version_total}
 use Rattle.cargo_lock_parts.specs.IdentityOrder.{is_same_identity}
-use Rattle.cargo_lock_merge_core.specs.Choices.{Counts, HasLostChecksum, HasLowerVersion, IsWithoutChecksum, IsByRule, IsChecksum, IsChosen, IsDependencyOf, IsGreater, IsOfSide, IsReplacement, checksum_if, if_same, replacement_if}
+use Rattle.cargo_lock_merge_core.specs.Choices.{Counts, HasLostChecksum, HasLowerVersion, HasNoChecksumFor, IsByRule, IsChecksum, IsChosen, IsDependencyOf, IsGreater, IsOfSide, IsReplacement, checksum_if, if_same, replacement_if}
 use Rattle.cargo_lock_merge_core.specs.Commits.{Lockfiles}
 use Rattle.cargo_lock_merge_core.specs.Numbered.{IsInOrder, place_number, place_numbers}
 use Rattle.cargo_lock_merge_core.specs.Placed.{HasMember, IsAt, PlacedData, key, key_if}
@@ -128,7 +128,7 @@ module _ {P : Type 0} (x y : PlacedData P) (e : key x ≡ key y) where
   pub checksum-alike : (b o t : Option (PlacedData P)) (c : Option (List ℕ)) → IsChecksum b o t x c → IsChecksum b o t y c
   checksum-alike b o t c h = only-cast _ _ _ _ _ _ c (ap checksum_if (same-if b)) (ap checksum_if (same-if o)) (ap checksum_if (same-if t)) h
 
-  lacks-alike : (o : Option (PlacedData P)) → IsWithoutChecksum x o → IsWithoutChecksum y o
+  lacks-alike : (o : Option (PlacedData P)) → HasNoChecksumFor x o → HasNoChecksumFor y o
   lacks-alike o (z, is, none) = (z, sym (same-if o) ∙ is, none)
 
   pub lost-alike : (b o t : Option (PlacedData P)) → HasLostChecksum b o t x → HasLostChecksum b o t y

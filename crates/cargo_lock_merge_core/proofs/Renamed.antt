@@ -7,7 +7,7 @@ use Rattle.std.proofs.lemmas.Option.{same_Some}
 use Rattle.cargo_lock_parts.specs.Identity.{PackageData, identity_of}
 use Rattle.cargo_lock_parts.specs.IdentityOrder.{is_same_identity}
 use Rattle.lists.proofs.Members.{in-map, map-in}
-use Rattle.cargo_lock_merge_core.specs.Choices.{Counts, DependsOn, HasLostChecksum, IsWithoutChecksum, IsChecksum, IsChecksumConflict, IsChosen, IsClash, IsDependency, IsDependencyOf, IsOfSide, IsReplacement, IsReplacementConflict, checksum_if, if_same, replacement_if}
+use Rattle.cargo_lock_merge_core.specs.Choices.{Counts, DependsOn, HasLostChecksum, HasNoChecksumFor, IsChecksum, IsChecksumConflict, IsChosen, IsClash, IsDependency, IsDependencyOf, IsOfSide, IsReplacement, IsReplacementConflict, checksum_if, if_same, replacement_if}
 use Rattle.cargo_lock_merge_core.specs.Commits.{IsSourceConflict, Lockfiles, git_in}
 use Rattle.lists.specs.Chains.{IsChain}
 use Rattle.cargo_lock_merge_core.specs.Merge.{MatterData, HasReference, HaveAt, IsMatter, IsMerge, IsMergedPackage, IsReachedInMerge, IsRootOfMerge, LeadsToInMerge, OfChecksum, OfPackage, OfReplacement, OfSource, OfVersion, OfLostChecksum, Triple, lockfiles_of}
@@ -210,7 +210,7 @@ module _ {P Q : Type 0} (f : P → Q) (s : Triple P) (inj : IsOneToOne s f) wher
       → IsChecksum (option_map (rename f) b) (option_map (rename f) o) (option_map (rename f) t) (rename f x) c
   checksum-to b o t x c h = only-cast _ _ _ _ _ _ c (checksum-map x b) (checksum-map x o) (checksum-map x t) h
 
-  lacks-to : (x : PlacedData P) (o : Option (PlacedData P)) → IsWithoutChecksum x o → IsWithoutChecksum (rename f x) (option_map (rename f) o)
+  lacks-to : (x : PlacedData P) (o : Option (PlacedData P)) → HasNoChecksumFor x o → HasNoChecksumFor (rename f x) (option_map (rename f) o)
   lacks-to x o (y, is, none) = (rename f y, if-same-map x o ∙ ap (option_map (rename f)) is, none)
 
   lost-to : (b o t : Option (PlacedData P)) (x : PlacedData P) → HasLostChecksum b o t x

@@ -168,15 +168,15 @@ IsChecksumConflict b o t x = HaveTwoValues (checksum_if (if_same x b)) (checksum
     (checksum_if (if_same x t))
 
 -- a side's package has the identity of x, and no checksum
-abbrev pub IsWithoutChecksum : {P : Type 0} → PlacedData P → Option (PlacedData P) → Type 0
-IsWithoutChecksum {P = P} x o = (y : PlacedData P) × (if_same x o ≡ Some y)
+abbrev pub HasNoChecksumFor : {P : Type 0} → PlacedData P → Option (PlacedData P) → Type 0
+HasNoChecksumFor {P = P} x o = (y : PlacedData P) × (if_same x o ≡ Some y)
     × (y.content.checksum ≡ None)
 
 -- the base has a checksum of the chosen x, and a side has it no more
 abbrev pub HasLostChecksum : {P : Type 0} → Option (PlacedData P) → Option (PlacedData P)
     → Option (PlacedData P) → PlacedData P → Type 0
 HasLostChecksum b o t x = (c : List ℕ) × (checksum_if (if_same x b) ≡ Some c)
-    × (IsWithoutChecksum x o ⊎ IsWithoutChecksum x t)
+    × (HasNoChecksumFor x o ⊎ HasNoChecksumFor x t)
 
 -- all three have a member of the workspace, in versions that differ
 abbrev pub HasTwoNewVersions : {P : Type 0} → Option (PlacedData P) → Option (PlacedData P)

@@ -3,7 +3,7 @@
 ghost use Rattle.std.specs.Prelude.{◌≡◌, None, is_some, option_map};
 ghost use Rattle.std.specs.Bool.{Decides};
 ghost use Rattle.cargo_lock_merge_core.specs.Agreed.{AreEqual, IsOnlyOf};
-ghost use Rattle.cargo_lock_merge_core.specs.Choices.{IsOfSide, IsWithoutChecksum, checksum_if, if_same};
+ghost use Rattle.cargo_lock_merge_core.specs.Choices.{IsOfSide, HasNoChecksumFor, checksum_if, if_same};
 ghost use Rattle.cargo_lock_merge_core.specs.Choices.{replacement_if};
 ghost use Rattle.cargo_lock_merge_core.specs.Numbered.{IsChecksumChoice, IsReplacementChoice};
 ghost use Rattle.cargo_lock_merge_core.specs.Numbered.{data_if, placed_data};
@@ -67,7 +67,7 @@ pub fn has_checksum<'a, 'd>(chosen: Placed<'a, 'd>, package: Option<Placed<'a, '
 
 /// Whether the package is there, has the identity of the chosen one, and no checksum.
 pub fn lacks_checksum<'a, 'd>(chosen: Placed<'a, 'd>, package: Option<Placed<'a, 'd>>) -> bool
-    ensures { Decides result (IsWithoutChecksum (placed_data chosen.entry) (data_if «package».entry)) }
+    ensures { Decides result (HasNoChecksumFor (placed_data chosen.entry) (data_if «package».entry)) }
 {
     match if_same(chosen, package) {
         Some(package) => has_no_checksum(package.package),
