@@ -62,7 +62,7 @@ class MergeRefused(Error, ValueError):
 
 @dataclasses.dataclass(frozen=True)
 class Merge:
-    """A merged lockfile: its text, and a line for each thing that the merge tells: a version that it
+    """A merged lockfile: its text, and a line for each thing that the merge reports: a version that it
     chose, a checksum that a side lost, and a dependency on a package that neither side has for it."""
 
     text: str

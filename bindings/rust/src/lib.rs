@@ -152,7 +152,7 @@ pub struct Merge {
     /// Its text.
     pub text: String,
 
-    /// What the merge tells: a line for each version that it chose, each checksum that a side lost, and
+    /// What the merge reports: a line for each version that it chose, each checksum that a side lost, and
     /// each dependency on a package that neither side has for it.
     pub moved: Vec<String>,
 }

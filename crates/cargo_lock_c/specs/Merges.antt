@@ -75,7 +75,7 @@ status_with (Refused Base) = 16
 status_with (Refused Ours) = 17
 status_with (Refused Theirs) = 18
 
--- what is asked of a merge that there is: its text, or the lines of what it tells
+-- what is asked of a merge that there is: its text, or the lines of what it reports
 abbrev pub asked_text : Part → List ℕ → Remarks → List ℕ
 asked_text Text text remarks = text
 asked_text Moved text remarks = remark_lines remarks

@@ -21,7 +21,7 @@ enum Part {
     /// Its text.
     Text,
 
-    /// The lines of what it tells: versions, alarms and moved references.
+    /// The lines of what it reports: versions, alarms and moved references.
     Moved,
 }
 
@@ -166,7 +166,7 @@ fn merge_answer(alloc: Global, merge: LockfileMerge<'_>, part: Part) -> Result<A
     }
 }
 
-/// What is asked of a merge with this text, which tells this.
+/// What is asked of a merge with this text, which reports this.
 fn part_text(
     alloc: Global,
     part: Part,

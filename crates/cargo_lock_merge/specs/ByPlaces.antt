@@ -70,7 +70,7 @@ pub record AreMovedByPlaces (all : Lockfiles) (packages : List PackageData) (rs 
 
 -- ---- notices
 
--- what there is to tell of a place, in some conflict or in none
+-- what there is to report of a place, in some conflict or in none
 abbrev pub subject_of_place : Lockfiles → merging.Conflict → Option (MatterData Place)
 subject_of_place all c = option_map (conflict_of c.kind) (place_in all c)
 
@@ -78,7 +78,7 @@ subject_of_place all c = option_map (conflict_of c.kind) (place_in all c)
 abbrev pub HasSubjectAt : Lockfiles → Triple Place → merging.Conflict → Type 0
 HasSubjectAt all s c = (p : Place) × (place_in all c ≡ Some p) × HasPackagesAt all s p c
 
--- These are exactly what there is to tell of places where the sides are in no conflict, each once.
+-- These are exactly what there is to report of places where the sides are in no conflict, each once.
 pub record AreNoticesByPlaces (all : Lockfiles) (ns : List merging.Conflict) : Type 0 where
   pub placed : Triple Place
   pub lists : AreAllPlaced all placed
@@ -89,7 +89,7 @@ pub record AreNoticesByPlaces (all : Lockfiles) (ns : List merging.Conflict) : T
 
 -- ---- what a merge returns
 
--- the merge of three lists of packages and what it tells, or the conflicts
+-- the merge of three lists of packages and what it reports, or the conflicts
 abbrev pub FindsByPlaces : Lockfiles → Outcome → Type 0
 FindsByPlaces all (Merged packages remarks) = AreMovedByPlaces all packages.items remarks.moved.items
     × AreNoticesByPlaces all remarks.notices.items

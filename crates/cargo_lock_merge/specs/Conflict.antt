@@ -28,7 +28,7 @@ pub record AreConflictsOf (s : Triple ℕ) (all : List Conflict) : Type 0 where
 
 -- ---- as the program has them
 
--- what there is to tell of a place
+-- what there is to report of a place
 abbrev pub subject_at : merging.Conflict → MatterData ℕ
 subject_at c = conflict_of c.kind c.place
 

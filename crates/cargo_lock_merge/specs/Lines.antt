@@ -209,7 +209,7 @@ notice_line c = notice_by c.kind c.base c.ours c.theirs
 abbrev pub notice_lines : List merging.Conflict → List ℕ
 notice_lines = flat_map (λ c. notice_line c ++ newline ∷ [])
 
--- the lines of all that a merge tells
+-- the lines of all that a merge reports
 abbrev pub remark_lines : Remarks → List ℕ
 remark_lines r = notice_lines r.notices.items ++ moved_lines r.moved.items
 

@@ -80,7 +80,7 @@ pub record HaveNoRoots (s : LockfileTriple) : Type 0 where
 -- ---- what a merge has
 
 -- The packages are the merge of the three lists, with their references with commits or without.
--- Beside them is what the merge tells.
+-- Beside them is what the merge reports.
 abbrev pub AreMergedPackages : Lockfiles → List PackageData → Remarks → Type 0
 AreMergedPackages all packages remarks = (merged : List PackageData)
     × IsMergeFound all merged remarks
@@ -89,7 +89,7 @@ AreMergedPackages all packages remarks = (merged : List PackageData)
 -- The lockfile is the merge of two sides over a base: it has the later format of both sides, the
 -- merged packages in the order in which Cargo writes them, no root apart from them, the metadata on
 -- which the three agree, and the unused patches that both sides have, or one side has and the base
--- has not; no dependency is twice in a package. Beside it is what the merge tells.
+-- has not; no dependency is twice in a package. Beside it is what the merge reports.
 pub record IsMergedLockfile (s : LockfileTriple) (l : LockfileData) (rs : Remarks) : Type 0
   where
     pub roots : HaveNoRoots s

@@ -6,7 +6,7 @@ use Rattle.cargo_lock_merge_core.specs.Conflicts.{IsConflictAt}
 use Rattle.cargo_lock_merge_core.specs.Merge.{IsConflicting, IsMatter, MatterData, Triple}
 use Rattle.cargo_lock_merge.specs.Conflict.{subject_at}
 
--- these are all that there is to tell and that is no conflict, each once
+-- these are all that there is to report and that is no conflict, each once
 pub record AreNotices (s : Triple ℕ) (all : List merging.Conflict) : Type 0 where
   pub exact : (c : MatterData ℕ) → Contains (map subject_at all) c
       ↔ ((¬ IsConflicting c) × IsMatter s c)

@@ -36,7 +36,7 @@ RefersInFull packages = (p : PackageData) (i : Identity) → Contains packages p
 
 -- The packages are the merge of the three lists, each of which has each git source at one commit,
 -- in the order in which Cargo writes them; no dependency is twice in a package. Beside them is what
--- the merge tells: the references that moved, and what is no conflict.
+-- the merge reports: the references that moved, and what is no conflict.
 pub record IsMergeFound (all : Lockfiles) (ps : List PackageData) (rs : Remarks) : Type 0 where
   pub commits : HaveOneCommitEach all
   pub merge : IsMergeOf all ps
@@ -69,7 +69,7 @@ FindsMerge all (Conflicts conflicts) = AreInConflictAbout all conflicts.items
 
 -- ---- as the program has them
 
--- the packages are those of a merge m by numbers, with what it tells
+-- the packages are those of a merge m by numbers, with what it reports
 abbrev pub IsMergedOf : Triple ℕ → List (PlacedData ℕ) → Outcome → Type 0
 IsMergedOf s m (Merged packages remarks) = AreAssembled m packages.items
     × AreInCargoOrder packages.items

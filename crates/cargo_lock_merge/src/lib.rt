@@ -1,4 +1,4 @@
-//! The merge of three lockfiles by packages, its conflicts and what it tells, each as a line.
+//! The merge of three lockfiles by packages, its conflicts and what it reports, each as a line.
 #![tactic(auto)]
 
 mod assemble;

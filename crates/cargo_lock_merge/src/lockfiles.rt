@@ -58,7 +58,7 @@ impl<'a> From<Error> for MergeError<'a> {
 /// What a merge of lockfiles is.
 #[derive(Drop)]
 pub enum LockfileMerge<'a> {
-    /// The merged lockfile, its text, and what the merge tells.
+    /// The merged lockfile, its text, and what the merge reports.
     Merged(Lockfile, String, Remarks<'a>),
 
     /// The sides are in conflict.
@@ -86,7 +86,7 @@ struct Rest {
     patch: Patch,
 }
 
-/// The merge of two lockfiles over their base, its text and what the merge tells, or the conflicts.
+/// The merge of two lockfiles over their base, its text and what the merge reports, or the conflicts.
 ///
 /// The merge has the later format of both sides. Its packages are those of `merge`, with their
 /// references as Cargo writes them: one in full has no commit. An unused patch is there if both

@@ -1,4 +1,4 @@
-//! What a merge tells of places where the sides are in no conflict.
+//! What a merge reports of places where the sides are in no conflict.
 
 ghost use Rattle.std.specs.Prelude.{◌≡◌, IfOk, IsOkUnless, is_none, string_bytes};
 ghost use Rattle.cargo_lock_parts.specs.declared.error.Error.TheVariants.{Memory};
@@ -21,7 +21,7 @@ use printing::Shown;
 use std::alloc::{AllocError, Global};
 use std::fmt;
 
-/// What a merge tells, each as a line.
+/// What a merge reports, each as a line.
 #[derive(Drop)]
 pub struct Remarks<'a> {
     /// The versions of members that it chose and the checksums that a side lost, in the order of the
@@ -48,7 +48,7 @@ impl<'a> Remarks<'a> {
     }
 }
 
-/// What there is to tell of places where the sides are in no conflict, in the order of the packages.
+/// What there is to report of places where the sides are in no conflict, in the order of the packages.
 /// The one error is `Memory`.
 pub(crate) fn notices_of<'a, 'd>(
     alloc: Global,
@@ -70,10 +70,7 @@ pub(crate) fn notices_of<'a, 'd>(
 }
 
 // The lines of notices.
-fn notice_lines(
-    alloc: Global,
-    notices: &[Matter<'_>],
-) -> std::result::Result<String, AllocError>
+fn notice_lines(alloc: Global, notices: &[Matter<'_>]) -> std::result::Result<String, AllocError>
     ensures { IfOk result (λ lines. string_bytes lines ≡ notice_lines notices.now) }
 {
     let mut lines = String::new(alloc);
@@ -135,11 +132,7 @@ impl fmt::Display for Versions<'_> {
 }
 
 // The sides that lost the checksum of a package.
-fn sides_of_loss(
-    base: &Package,
-    ours: Option<&Package>,
-    theirs: Option<&Package>,
-) -> &'static str
+fn sides_of_loss(base: &Package, ours: Option<&Package>, theirs: Option<&Package>) -> &'static str
     ensures { result.now ≡ sides_of_loss base.now ours.entry theirs.entry }
 {
     match (lacks_checksum(base, ours), lacks_checksum(base, theirs)) {

@@ -29,7 +29,7 @@ use std::alloc::Global;
 /// What a merge of two sides over a base is.
 #[derive(Drop)]
 pub enum Outcome<'a> {
-    /// The merged packages, in the order in which Cargo writes them, and what the merge tells.
+    /// The merged packages, in the order in which Cargo writes them, and what the merge reports.
     Merged(Vec<Package>, Remarks<'a>),
 
     /// What the sides are in conflict about, at least one thing: what is at places in the order of

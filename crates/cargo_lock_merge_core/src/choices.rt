@@ -210,9 +210,7 @@ fn are_updated<'a, 'd>(
     ensures { Decides result (AreUpdated (data_if base.entry) (placed_data ours.entry)
         (placed_data theirs.entry)) }
 {
-    is_of_registry(ours.package)
-        && is_of_registry(theirs.package)
-        && are_above(base, ours, theirs)
+    is_of_registry(ours.package) && is_of_registry(theirs.package) && are_above(base, ours, theirs)
 }
 
 /// Whether all three have the package, and none has a source for it.
