@@ -96,26 +96,42 @@ def print_growth(asked, found, bench):
 
 
 def of_shape(asked, words, make, size, bench):
-    """The instructions and the megabytes of a command over a lockfile of a shape."""
+    """The instructions of a command over a lockfile of a shape, and what a run of it took."""
     texts, specs = make(size)
     paths = [f"{asked.work}/shape-{number}.lock" for number in range(len(texts))]
     for path, text in zip(paths, texts):
         with open(path, "w", encoding="utf-8") as out:
             out.write(text)
     call = [asked.program, *words, *paths, *specs]
-    run = bench.run_once(call, asked.limit)
-    return count(call), run and run.megabytes
+    return count(call), bench.run_once(call, asked.limit)
+
+
+def faults_of(name, growths, runs):
+    """What is wrong with a shape: a run that took too long, an answer of another kind, or that
+    instructions or memory grow by more than they may."""
+    if None in runs:
+        return [f"{name}: a run takes longer than the limit"]
+    refused = [it.status == 2 for it in runs]
+    found = [] if refused == [name == shapes.REFUSED] * 2 else [f"{name}: statuses are not as known"]
+    grown = [f"{it:.2f}" for it in growths if it > shapes.MOST]
+    return found + [f"{name}: growth {it}, and {shapes.MOST} is the most" for it in grown]
 
 
 def print_shapes(asked, bench):
-    """Prints by how much the instructions and the memory grow if a shape has twice the size."""
+    """Prints by how much the instructions and the memory grow if a shape has twice the size. Returns
+    what is wrong with them."""
     print("\nShapes, in millions of instructions, and the growth of the most memory:\n")
     bench.head(["Shape", "Command", "Packages", "Instructions", "Twice the size", "Growth", "Memory"])
+    faults = []
     for name, (words, make, size) in shapes.SHAPES.items():
-        one, two = (of_shape(asked, words, make, it, bench) for it in (size, 2 * size))
-        cells = [f"{one[0]:,.0f}", f"{two[0]:,.0f}", f"{two[0] / one[0]:.2f}"]
-        cells.append(f"{two[1] / one[1]:.2f}" if one[1] and two[1] else "–")
-        bench.row([name, f"`{' '.join(words)}`", f"{size:,}", *cells])
+        counts, runs = zip(*(of_shape(asked, words, make, it, bench) for it in (size, 2 * size)))
+        growths = [counts[1] / counts[0]]
+        if None not in runs:
+            growths.append(runs[1].megabytes / runs[0].megabytes)
+        cells = [f"{it:,.0f}" for it in counts] + [f"{it:.2f}" for it in growths]
+        bench.row([name, f"`{' '.join(words)}`", f"{size:,}", *cells, *["–"] * (None in runs)])
+        faults += faults_of(name, growths, runs)
+    return faults
 
 
 # ---- merges

@@ -98,14 +98,26 @@ def in_two_versions(count):
     return [lockfile(package("app", "0.1.0", needs=needs), *packages)], []
 
 
-def of_a_long_version(count):
-    """A package whose version has so many bytes, and as many references to it."""
+def of_a_long_version(count, length=4000):
+    """So many references to a package whose version has so many bytes behind its numbers."""
     app = package("app", "0.1.0", needs=["left"] * count)
-    return [lockfile(app, package("left", f"1.0.0-{'a' * count}"))], []
+    return [lockfile(app, package("left", f"1.0.0-{'a' * length}"))], []
 
 
-# The command, what is asked, and the packages of the smaller lockfile. That of a long version has so
-# many references, and both are beyond the limit on the versions of what packages depend on.
+def of_a_longer_version(count):
+    """So many references to a package whose version has as many bytes."""
+    return of_a_long_version(count, count)
+
+
+# By how much instructions and memory may grow at twice the size.
+MOST = 2.4
+
+# The shape whose lockfiles are refused: the versions of what packages depend on have more bytes than
+# the limit, 256 MiB.
+REFUSED = "references to a version as long"
+
+# The command, what is asked, and the packages of the smaller lockfile, or its references to a long
+# version. Of those to a version of 4,000 bytes both lockfiles are below the limit, with 8 MB and 16 MB.
 SHAPES = {
     "one package many times": (["check", "-f"], repeated, 200),
     "git packages of one name, `tree`": (["tree", "-f"], of_git, 200),
@@ -123,5 +135,6 @@ SHAPES = {
     "each package needs one": (["why", "--all", "-f"], of_roots, 50000),
     "each name in two versions": (["duplicates", "-f"], in_two_versions, 50000),
     "a picture of packages that need two": (["graph", "-f"], halved, 50000),
-    "references to a long version": (["check", "-f"], of_a_long_version, 20000),
+    "references to a version of 4,000 bytes": (["list", "-f"], of_a_long_version, 2000),
+    REFUSED: (["check", "-f"], of_a_longer_version, 20000),
 }

@@ -152,7 +152,7 @@ _cargo_lock() {
         --since) _cargo_lock_files ;;
         --format) _cargo_lock_offer 'sarif github' ;;
         --name) _cargo_lock_files ;;
-        *) _cargo_lock_offer '-f --file --any-size --db --ignore --deny --registry --since --json --format --name -h --help' ;;
+        *) _cargo_lock_offer '-f --file --any-size --db --ignore --deny --registry --since --why --json --format --name -h --help' ;;
         esac
         ;;
     help) _cargo_lock_offer 'list translate tree bom json diff check why duplicates graph merge verify licenses audit help' ;;

@@ -84,7 +84,7 @@ complete -c cargo-lock -n '__cargo_lock_runs check' -s f -l file -r -F -d 'The l
 complete -c cargo-lock -n '__cargo_lock_runs check' -l any-size -d 'Reads a lockfile of 256 MiB or more too'
 complete -c cargo-lock -n '__cargo_lock_runs check' -l json -d 'Prints one line of JSON'
 complete -c cargo-lock -n '__cargo_lock_runs check' -l format -x -a 'sarif github' -d 'Prints SARIF 2.1.0 in one line, or annotations of GitHub'
-complete -c cargo-lock -n '__cargo_lock_runs check' -l name -r -F -d 'The path of standard input in the report, `Cargo.lock` without it'
+complete -c cargo-lock -n '__cargo_lock_runs check' -l name -r -F -d 'The path of standard input before lines, and in a report in place of `Cargo.lock`'
 complete -c cargo-lock -n '__cargo_lock_runs check' -s h -l help -d 'Print help'
 complete -c cargo-lock -n '__cargo_lock_runs check' -F -d 'Lockfiles in place of that of --file'
 
@@ -143,6 +143,7 @@ complete -c cargo-lock -n '__cargo_lock_runs audit' -l ignore -r -d 'Leaves out 
 complete -c cargo-lock -n '__cargo_lock_runs audit' -l deny -r -a 'unmaintained unsound notice warnings' -d 'Counts informational advisories of this kind as vulnerabilities'
 complete -c cargo-lock -n '__cargo_lock_runs audit' -l registry -r -d 'Takes packages of this registry for those of crates.io'
 complete -c cargo-lock -n '__cargo_lock_runs audit' -l since -r -F -d 'Counts only what this older lockfile does not have'
+complete -c cargo-lock -n '__cargo_lock_runs audit' -l why -d 'Prints below each finding the packages through which it is needed'
 complete -c cargo-lock -n '__cargo_lock_runs audit' -l json -d 'Prints one line of JSON'
 complete -c cargo-lock -n '__cargo_lock_runs audit' -l format -x -a 'sarif github' -d 'Prints SARIF 2.1.0 in one line, or annotations of GitHub'
 complete -c cargo-lock -n '__cargo_lock_runs audit' -l name -r -F -d 'The path of standard input in the report, `Cargo.lock` without it'

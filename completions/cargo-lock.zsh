@@ -97,7 +97,7 @@ _cargo-lock() {
             '--any-size[Reads a lockfile of 256 MiB or more too]' \
             '--json[Prints one line of JSON]' \
             '--format[Prints SARIF 2.1.0 in one line, or annotations of GitHub]:FORMAT:(sarif github)' \
-            '--name[The path of standard input in the report, `Cargo.lock` without it]:PATH:_files' \
+            '--name[The path of standard input before lines, and in a report in place of `Cargo.lock`]:PATH:_files' \
             '(- *)'{-h,--help}'[Print help]' \
             '*:PATH:_files'
         ;;
@@ -172,6 +172,7 @@ _cargo-lock() {
             '*--deny[Counts informational advisories of this kind as vulnerabilities]:KIND:(unmaintained unsound notice warnings)' \
             '*--registry[Takes packages of this registry for those of crates.io]:URL:' \
             '--since[Counts only what this older lockfile does not have]:OLD:_files' \
+            '--why[Prints below each finding the packages through which it is needed]' \
             '--json[Prints one line of JSON]' \
             '--format[Prints SARIF 2.1.0 in one line, or annotations of GitHub]:FORMAT:(sarif github)' \
             '--name[The path of standard input in the report, `Cargo.lock` without it]:PATH:_files' \

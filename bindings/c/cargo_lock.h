@@ -190,9 +190,10 @@ uint32_t cargo_lock_merge(const uint8_t *base, size_t base_len, const uint8_t *o
                           size_t ours_len, const uint8_t *theirs, size_t theirs_len, uint8_t *out,
                           size_t out_len, size_t *length);
 
-/* The references that this merge moved, dependencies on packages that neither side has for them: a
- * line for each with a newline at the end, as `cargo-lock merge` prints it on standard error. Where no
- * reference moved the length is 0. It has a call of its own so that each call has one buffer. The
+/* What this merge reports: the versions of members of the workspace that it chose, the checksums that a
+ * side lost, and the references that it moved, dependencies on packages that neither side has for them:
+ * a line for each with a newline at the end, as `cargo-lock merge` prints it on standard error. Where
+ * there is nothing to report the length is 0. It has a call of its own so that each call has one buffer. The
  * statuses are those of cargo_lock_merge, with the same texts at CONFLICTS and at .._REFUSED. */
 uint32_t cargo_lock_merge_moved(const uint8_t *base, size_t base_len, const uint8_t *ours,
                                 size_t ours_len, const uint8_t *theirs, size_t theirs_len,

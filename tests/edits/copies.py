@@ -105,18 +105,18 @@ def put_proof(crate, copy, room):
                 file.write(re.sub(rf"{re.escape(old)}(?=[.\s])", new, text))
 
 
-def check(crate, copies, kept):
-    """Returns the status of one check of the crate with the copies, and what it printed. It begins
-    with the work of a folder, and leaves there what it did; with no folder it is of the copies
-    alone."""
+def check(crate, copies, kept, is_alone):
+    """Returns the status of one check of the crate with the copies, and what it printed. It is of the
+    whole crate, or of the copies alone and of what they call. It begins with the work of a folder, if
+    one is given, and leaves there what it did."""
     with tempfile.TemporaryDirectory(prefix="edits-") as room:
         for part in rt.rtlib.PARTS:
             if os.path.isdir(f"{crate.folder}/{part}"):
                 shutil.copytree(f"{crate.folder}/{part}", f"{room}/{part}")
         put_copies(crate, copies, room)
-        alone = [word for it in copies for word in ("--only", it.path)]
         words = crate.words(["--jobs", "1"], keeps=False)
-        words += ["--incremental", kept] if kept else alone
+        words += [word for it in copies for word in ("--only", it.path) if is_alone]
+        words += ["--incremental", kept] if kept else []
         call = [*rt.rtlib.guarded(), rt.rtlib.RATTLE, "check", *words]
         ran = subprocess.run(call, cwd=room, stdin=subprocess.DEVNULL, stdout=subprocess.PIPE,
                              stderr=subprocess.STDOUT, errors="replace")
@@ -129,22 +129,21 @@ def broken(copies, said):
     return [it for it in copies if any(it.function.holds(*at) for at in places)]
 
 
-def try_part(crate, edits, kept):
+def try_part(crate, edits, kept, is_alone):
     """Returns the edits that one check refuses in their own copies, and whether it shows of the
-    crate itself what it was to show. Over the work of a folder it proves the whole crate; with no
-    folder it is of the copies alone. The words of each refusal are noted. What does not compile is
-    left out."""
+    crate itself what it was to show: that it is proved, unless the check is of the copies alone. The
+    words of each refusal are noted. What does not compile is left out."""
     copies = [Copy(crate, it, number) for number, it in enumerate(edits)]
-    status, said = check(crate, copies, kept)
+    status, said = check(crate, copies, kept, is_alone)
     while not is_judged(said) and broken(copies, said):
         left = broken(copies, said)
         copies = [it for it in copies if it not in left]
-        if not copies and not kept:
+        if not copies and is_alone:
             return [], True
-        status, said = check(crate, copies, kept)
+        status, said = check(crate, copies, kept, is_alone)
     lines = rule.refusals(said) if status == 1 else []
     is_own = all(any(it.function.holds(*at[:2]) for it in copies) for at in lines)
-    is_sound = status in (0, 1) and is_own and (not kept or proves_others(copies, said))
+    is_sound = status in (0, 1) and is_own and (is_alone or proves_others(copies, said))
     return [it.edit for it in copies if rule.is_refused_by(lines, it.edit, [it.function])], is_sound
 
 
@@ -161,13 +160,13 @@ def proves_others(copies, said):
     return bool(others) and all(it.split()[0] == "proved" for it in others)
 
 
-def try_all(crate, edits, kept, say):
+def try_all(crate, edits, kept, say, is_alone=False):
     """Tries the edits that can be tried as copies, so many in each check. Returns those that are
-    refused, and whether each check proved the crate itself."""
+    refused, and whether each check showed of the crate itself what it was to show."""
     able, refused, is_sound = [it for it in edits if can_copy(crate, it)], [], True
     for first in range(0, len(able), AT_ONCE):
         part = able[first : first + AT_ONCE]
-        found, proves = try_part(crate, part, kept)
+        found, proves = try_part(crate, part, kept, is_alone)
         say(f"{crate.name}: {len(found)} of {len(part)} copies refused")
         refused += found
         is_sound = is_sound and proves

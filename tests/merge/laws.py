@@ -3,13 +3,18 @@ of them says how a merge is found: they know places, and otherwise only read loc
 """
 import re
 
-from lockfiles import Refused, print_text, read
-from model import ROLES, Side, doubled_names, rule3, with_commit
+from lockfiles import Refused, print_text, read, version_order
+from model import ROLES, Side, doubled_names, rule3, shown, with_commit
 
 LINE = re.compile(r"(conflict: .*?: )(.* -> )?(.*) \(ours\), (.*) \(theirs\)")
 # A source behind a package, where others have its name and version.
 SOURCE = re.compile(r" \([a-z-]+\+[^ )]*\)")
 MOVED = re.compile(r"(moved: .*) \((?:ours: (.*?))?(?:, )?(?:theirs: (.*))?\)")
+
+
+VERSION = re.compile(r"(version: .*: )(.*) \(ours\), (.*) \(theirs\): its manifest decides")
+NOTICE = re.compile(r"alarm: .*: checksum gone in (ours|theirs|ours and theirs)|" + VERSION.pattern)
+EXCHANGED = {"ours": "theirs", "theirs": "ours"}
 
 
 class Broken(Exception):
@@ -87,6 +92,7 @@ def check_answer(texts, answer):
     check_sides(views, merged)
     check_both(views, merged)
     check_moved(views, merged, answer)
+    check_notices(views, merged, answer)
 
 
 def check_sound(views, merged, answer):
@@ -102,14 +108,15 @@ def check_sound(views, merged, answer):
 
 
 def check_sides(views, merged):
-    """Everything comes from a side."""
+    """Everything comes from a side, but for a checksum, which all three can have."""
     _, ours, theirs = views
     for place, it in merged.at.items():
         sides = [side.at[place] for side in (ours, theirs) if place in side.at]
         same = [side for side in sides if side.key() == it.key()]
         ask(same, f"a package is of a side: {it.key()}")
-        ask(it.package.checksum in [side.package.checksum for side in same],
-            f"a checksum is of a side: {it.key()}")
+        known = {view.at[place].package.checksum for view in views
+                 if place in view.at and view.at[place].key() == it.key()} - {None}
+        ask(known == {it.package.checksum} - {None}, f"a checksum is the only one: {it.key()}")
         ask(it.replacement in [side.replacement for side in same],
             f"a replacement is of a side: {it.key()}")
         ask(it.dependencies <= set().union(*(side.dependencies for side in sides)),
@@ -146,7 +153,7 @@ def check_moved(views, merged, answer):
     moved = [f"moved: {with_commit(it.key())} on {with_commit(merged.at[to].key())}"
              for place, it in merged.at.items() for to in it.dependencies
              if to.source and not any(has_reference(side, merged, place, to) for side in views[1:])]
-    lines = [MOVED.fullmatch(it) for it in answer.lines]
+    lines = [MOVED.fullmatch(it) for it in answer.lines if not NOTICE.fullmatch(it)]
     ask(all(lines), f"moved references are reported in lines: {answer.lines}")
     reported = [SOURCE.sub("", it[1]) for it in lines]
     ask(sorted(reported) == sorted(moved), f"each moved reference is reported: {moved}")
@@ -155,10 +162,38 @@ def check_moved(views, merged, answer):
     ask(moved or own <= known, f"a link is in a side where no reference moved: {own - known}")
 
 
+def check_notices(views, merged, answer):
+    """Each checksum that is not that of a side is told, and each version that both sides changed."""
+    told = {it for it in answer.lines if NOTICE.fullmatch(it)}
+    wanted = set()
+    for place, it in merged.at.items():
+        base, *sides = [view.at.get(place) for view in views]
+        lost = [role for role, side in zip(ROLES[1:], sides) if side and side.key() == it.key()
+                and not side.package.checksum]
+        if lost and it.package.checksum and base and base.key() == it.key() and base.package.checksum:
+            name = f"{shown(it.key().name)} {shown(it.key().version)}"
+            wanted.add(f"alarm: {name}: checksum gone in {' and '.join(lost)}")
+        keys = [side and side.key() for side in (base, *sides)]
+        if place.source is None and all(keys) and len(set(keys)) == 3:
+            ours, theirs = (shown(key.version) for key in keys[1:])
+            ask(version_order(it.key().version) == max(version_order(key.version) for key in keys[1:]),
+                f"the greater version is taken: {it.key()}")
+            wanted.add(f"version: {shown(it.key().name)}: {ours} (ours), {theirs} (theirs): "
+                       "its manifest decides")
+    ask(told == wanted, f"what is no conflict is told: {wanted}")
+
+
 # ---- of several answers
 
 def exchanged(line):
     """A line with its sides exchanged."""
+    found = VERSION.fullmatch(line)
+    if found:
+        what, ours, theirs = found.groups()
+        return f"{what}{theirs} (ours), {ours} (theirs): its manifest decides"
+    if line.startswith("alarm: "):
+        what, _, lost = line.rpartition(" in ")
+        return f"{what} in {EXCHANGED.get(lost, lost)}"
     found = LINE.fullmatch(line)
     if found:
         what, base, ours, theirs = found.groups()
@@ -199,8 +234,23 @@ def check_one_side(merge, texts, number):
     if answer.status == 2:
         return
     what = ["b x b", "b b x", "b x x"][number % 3]
-    ask(answer.status == 0 and not answer.lines, f"{what} is x: {answer.lines}")
-    ask(contents(answer.text) == contents(change), f"{what} is x")
+    changed, lost = other_checksums(View(base, doubled_names(lockfiles)), view)
+    if changed:
+        ask(answer.status == 1, f"{what} is a conflict about a checksum: {answer.lines}")
+        return
+    ask(answer.status == 0 and len(answer.lines) == len(lost), f"{what} is x: {answer.lines}")
+    if not lost:
+        ask(contents(answer.text) == contents(change), f"{what} is x")
+
+
+def other_checksums(base, side):
+    """The identities whose checksum of the base is another one in the side, and those that have lost
+    it there."""
+    both = [(it.key(), it.package.checksum, side.at[place].package.checksum)
+            for place, it in base.at.items()
+            if place in side.at and side.at[place].key() == it.key() and it.package.checksum]
+    return ([key for key, old, new in both if new and new != old],
+            [key for key, old, new in both if not new])
 
 
 def check_stable(merge, texts, answer):

@@ -163,7 +163,7 @@ class Merge:
         if self.answer and not survives(self.answer):
             self.conflicts = [f"conflict: format V{self.answer.format} does not keep the merge"]
             self.answer = None
-        self.moved = self.moved_references() if self.answer else []
+        self.remarks = self.notices() + self.moved_references() if self.answer else []
 
     def at(self, place):
         return [it.get(place) for it in self.sides]
@@ -197,11 +197,15 @@ class Merge:
         return self.greater(base, ours, theirs)
 
     def greater(self, base, ours, theirs):
-        """The one of a registry with the greater version, if both are above the base's."""
+        """The one with the greater version: of a registry, if both are above the base's, or of a
+        member of the workspace that the base has too."""
         old, one, other = (it and version_order(it.key().version) for it in (base, ours, theirs))
-        if not ours.key().source or ours.key().source.word not in ("registry", "sparse"):
+        source = ours.key().source
+        if source and source.word not in ("registry", "sparse"):
             return None
-        if one == other or (base and not (old < one and old < other)):
+        if one == other or (not source and not base):
+            return None
+        if source and base and not (old < one and old < other):
             return None
         return ours if one > other else theirs
 
@@ -213,24 +217,26 @@ class Merge:
         chosen = self.chosen(place)
         if not chosen:
             return ours.dependencies | theirs.dependencies
-        counts = [it.key() in (chosen.key(), base and base.key()) for it in (ours, theirs)]
+        counts = [place.source is None or it.key() in (chosen.key(), base and base.key())
+                  for it in (ours, theirs)]
         if counts != [True, True]:
             return ours.dependencies if counts[0] else theirs.dependencies
         return {it for it in ours.dependencies | theirs.dependencies
                 if rule3(bool(base) and it in base.dependencies, it in ours.dependencies,
                          it in theirs.dependencies)}
 
-    def value(self, place, of):
-        """The checksum or the replacement of the chosen package, of those of its identity."""
-        key = self.chosen(place).key()
-        base, ours, theirs = (of(it) if it and it.key() == key else ABSENT for it in self.at(place))
-        return merged_value(None if base == ABSENT else base, ours, theirs)
-
     def checksum(self, place):
-        return self.value(place, lambda it: it.package.checksum)
+        """The only checksum that the identity of the chosen package has in the three lockfiles."""
+        key = self.chosen(place).key()
+        found = {it.package.checksum for it in self.at(place) if it and it.key() == key} - {None}
+        return DISPUTED if len(found) > 1 else next(iter(found), None)
 
     def replacement(self, place):
-        return self.value(place, lambda it: it.replacement)
+        """The replacement of the chosen package, of those of its identity."""
+        key = self.chosen(place).key()
+        base, ours, theirs = (it.replacement if it and it.key() == key else ABSENT
+                              for it in self.at(place))
+        return merged_value(None if base == ABSENT else base, ours, theirs)
 
     # ---- what is reached
 
@@ -333,7 +339,32 @@ class Merge:
         values = [of(it) if it and it.key() == key else ABSENT for it in self.at(place)]
         if values[0] == "none":
             values[0] = ABSENT
-        return [conflict_line(f"{what} of {named(key)}", values, str)]
+        return [conflict_line(f"{what} of {named(key)}", values,
+                              lambda it: "none" if it == ABSENT else it)]
+
+    # ---- what is no conflict, each as its line
+
+    def notices(self):
+        """The versions of members that were chosen, and the checksums that a side lost."""
+        places = sorted(self.reached, key=lambda it: self.first_key(it).order())
+        return [line for it in places for line in [*self.version_line(it), *self.lost_line(it)]]
+
+    def version_line(self, place):
+        base, ours, theirs = self.at(place)
+        if place.source or not (base and ours and theirs):
+            return []
+        if rule3(*(it.key() for it in (base, ours, theirs))) != DISPUTED:
+            return []
+        versions = f"{shown(ours.key().version)} (ours), {shown(theirs.key().version)} (theirs)"
+        return [f"version: {shown(place.name)}: {versions}: its manifest decides"]
+
+    def lost_line(self, place):
+        key = self.chosen(place).key()
+        base, *sides = [it and it.key() == key and it.package for it in self.at(place)]
+        lost = [role for role, it in zip(ROLES[1:], sides) if it and not it.checksum]
+        if not (base and base.checksum and lost):
+            return []
+        return [f"alarm: {named(key)}: checksum gone in {' and '.join(lost)}"]
 
     # ---- moved references, each as its line
 
@@ -445,7 +476,7 @@ def merge(texts):
         return Answer(2, "", [f"*** error: {error}"])
     if merge.conflicts:
         return Answer(1, "", merge.conflicts)
-    return Answer(0, print_text(merge.answer), merge.moved)
+    return Answer(0, print_text(merge.answer), merge.remarks)
 
 
 def text_at(path, may_lack):

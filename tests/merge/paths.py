@@ -44,9 +44,9 @@ class Asked:
         by_name = {it.name: it for it in rows()}
         self.good, self.bad = by_name["02"].texts, by_name["17"].texts
         self.text = "".join(f"{it}\n" for it in by_name["02"].wanted("lock"))
-        self.moved = by_name["02"].wanted("moved")
+        self.told = by_name["02"].wanted("told")
         self.conflicts = by_name["17"].wanted("conflicts")
-        self.merged = (0, self.text, self.moved)
+        self.merged = (0, self.text, self.told)
 
     def lay(self, texts, *others):
         """Leaves the triple in the folder, and nothing else but these files."""
@@ -88,7 +88,7 @@ class Asked:
                 answer = self.program.run("merge", *words)
                 after = self.files()
                 what = f"merge {' '.join(words)}"
-                yield what, fault_of(answer, (0, "", self.moved))
+                yield what, fault_of(answer, (0, "", self.told))
                 text, number, rights = after.pop(path, (None, None, None))
                 old = before.pop(path, (None, None, rights))
                 yield f"{what}: the text", None if text == self.text else f"another text: {text!r}"
@@ -126,7 +126,7 @@ class Asked:
     def lacking(self):
         """Files that are empty or not there."""
         first = {it.name: it for it in rows()}["22"]
-        wanted = (0, "".join(f"{it}\n" for it in first.wanted("lock")), first.wanted("moved"))
+        wanted = (0, "".join(f"{it}\n" for it in first.wanted("lock")), first.wanted("told"))
         self.lay(["", *first.texts[1:]])
         yield self.unchanged("an empty base", wanted, *NAMES)
         yield self.unchanged("no base", wanted, "none", *NAMES[1:])

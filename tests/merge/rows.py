@@ -39,7 +39,7 @@ class Row:
             return fault_of_words(answer, int(words[0]), words[1:])
         if conflicts:
             return fault_of(answer, (1, "", conflicts))
-        lines = self.wanted("moved") or []
+        lines = self.wanted("told") or []
         return fault_of(answer, (0, text_of(f"{self.folder}/wanted.lock"), lines))
 
 

@@ -164,7 +164,7 @@ def edit_commit(world, branch, used):
 
 def edit_rarely(world, branch, used):
     rng = world.rng
-    what = rng.choice(["replace", "patch", "metadata", "format", "checksum", "twin", "orphan"])
+    what = rng.choice(["replace", "patch", "metadata", "format", "checksum", "lost", "twin", "orphan"])
     if what == "replace":
         branch.replaced ^= {rng.choice(used or world.targets)}
     elif what == "patch":
@@ -261,6 +261,8 @@ def add_oddities(world, branch, packages):
         if what == "checksum" and own:
             package = own[number * (len(own) - 1)]
             package.checksum = checksum_of(package.identity, world.rng.choice(["a", "b"]))
+        elif what == "lost" and own:
+            own[number * (len(own) - 1)].checksum = None
         elif what == "twin":
             packages.append(Package(Identity(MEMBERS[number], f"9.0.{number}", None)))
         elif what == "orphan":

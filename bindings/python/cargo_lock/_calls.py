@@ -62,8 +62,8 @@ class MergeRefused(Error, ValueError):
 
 @dataclasses.dataclass(frozen=True)
 class Merge:
-    """A merged lockfile: its text, and a line for each reference that the merge moved, a dependency
-    on a package that neither side has for it."""
+    """A merged lockfile: its text, and a line for each thing that the merge reports: a version that it
+    chose, a checksum that a side lost, and a dependency on a package that neither side has for it."""
 
     text: str
     moved: tuple[str, ...]

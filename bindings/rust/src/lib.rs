@@ -152,8 +152,8 @@ pub struct Merge {
     /// Its text.
     pub text: String,
 
-    /// The references that the merge moved: a line for each dependency on a package that neither
-    /// side has for it.
+    /// What the merge reports: a line for each version that it chose, each checksum that a side lost, and
+    /// each dependency on a package that neither side has for it.
     pub moved: Vec<String>,
 }
 

@@ -78,11 +78,14 @@ advisory_findings_text = flat_map (λ f. advisory_finding_line f ++ newline ∷ 
 abbrev pub unmet_text : List (List ℕ) → List ℕ
 unmet_text = flat_map (λ id. unmet_line id ++ newline ∷ [])
 
--- the report: the line of each finding, then of each text that was ignored in vain, and at last what
--- was compared
+-- the report behind its findings: the line of each text that was ignored in vain, and at last what was
+-- compared
+abbrev pub rest_of_report_text : ReportData → List ℕ
+rest_of_report_text r = unmet_text r.unmet ++ (coverage_line r.coverage ++ newline ∷ [])
+
+-- the report: the line of each finding, and the rest
 abbrev pub audit_report_text : ReportData → List ℕ
-audit_report_text r = advisory_findings_text r.findings
-    ++ (unmet_text r.unmet ++ (coverage_line r.coverage ++ newline ∷ []))
+audit_report_text r = advisory_findings_text r.findings ++ rest_of_report_text r
 
 -- the report is exactly these lines, whatever names, ids, titles and requirements hold
 abbrev pub EachAuditedIsOneLine : Type 0

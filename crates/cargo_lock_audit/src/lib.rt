@@ -29,7 +29,7 @@ pub use crate::details::{Affected, Details, Function};
 pub use crate::document::advisories_json;
 pub use crate::finding::Finding;
 pub use crate::pair::{Pair, pairs};
-pub use crate::report::{Report, Unmet};
+pub use crate::report::{Report, Unmet, write_rest};
 pub use crate::reporting::reported_advisories;
 pub use crate::requirement::{Bound, Relation, Requirement};
 pub use crate::settings::{Settings, registry_of};

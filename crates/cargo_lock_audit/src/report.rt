@@ -10,7 +10,7 @@ ghost use Rattle.cargo_lock_audit.specs.Findings.{advisory_finding_of, brought_o
 ghost use Rattle.cargo_lock_audit.specs.Findings.{finding_if, findings_of, id_of, is_brought};
 ghost use Rattle.cargo_lock_audit.specs.Findings.{is_denied_kind, is_ignored, is_pair_with, unmet};
 ghost use Rattle.cargo_lock_audit.specs.Findings.{unmet_if};
-ghost use Rattle.cargo_lock_audit.specs.Lines.{advisory_findings_text, unmet_text};
+ghost use Rattle.cargo_lock_audit.specs.Lines.{advisory_findings_text, rest_of_report_text, unmet_text};
 ghost use Rattle.cargo_lock_audit.specs.Pairs.{advisory_pair_of};
 ghost use Rattle.cargo_lock_audit.specs.Report.{report_data_of, report_of};
 ghost use Rattle.cargo_lock_audit.specs.Settings.{settings_of};
@@ -286,10 +286,22 @@ impl fmt::Display for Report<'_, '_, '_> {
 
     fn fmt<W: fmt::Write>(&self, f: &mut fmt::Formatter<W>) -> fmt::Result {
         write_findings(&self.findings, f)?;
-        write_unmet(&self.unmet, f)?;
-        let coverage = &self.coverage;
-        write!(f, "{coverage}\n")
+        write_rest(self, f)
     }
+}
+
+/// Writes the lines of a report behind those of its findings, each with its newline: what was ignored in
+/// vain, and what was compared.
+pub fn write_rest<W: fmt::Write>(
+    report: &Report<'_, '_, '_>,
+    f: &mut fmt::Formatter<W>,
+) -> fmt::Result
+    ensures { DisplaysOnOk W.write_str_gives f.old result
+        (Some (rest_of_report_text (report_data_of report.now))) f.new }
+{
+    write_unmet(&report.unmet, f)?;
+    let coverage = &report.coverage;
+    write!(f, "{coverage}\n")
 }
 
 // Writes the line of each finding.

@@ -29,45 +29,57 @@ use cargo_lock_parts::package::{Checksum, Package, SourceId, SourceKind};
 use printing::JsonWriter;
 use std::alloc::{AllocError, Global};
 
-/// Writes the components of the packages of some nodes, with these licences of the
-/// packages and these texts that refer to them. Fails when out of memory.
+/// The packages of which components are written, with their licences and the texts that refer to
+/// them.
+#[derive(Clone, Copy)]
+pub(crate) struct Components<'a> {
+    /// The graph of the packages.
+    pub graph: &'a Graph,
+
+    /// The licences of the packages, each at the place of its package.
+    pub licenses: &'a [Option<License>],
+
+    /// The texts that refer to the packages, in order.
+    pub texts: &'a [String],
+}
+
+/// Writes the components of the packages of some nodes. Fails when out of memory.
 pub(crate) fn put_components(
     out: &mut JsonWriter,
     alloc: Global,
-    graph: &Graph,
-    licenses: &[Option<License>],
-    texts: &[String],
+    components: &Components<'_>,
     nodes: &[usize],
 ) -> Result<(), AllocError>
-    requires within { All (λ k. k < length graph.now.packages) nodes.now }
-    requires texts { map string_bytes texts.now ≡ map package_reference graph.now.packages }
+    requires within { All (λ k. k < length components.now.graph.now.packages) nodes.now }
+    requires texts { map string_bytes components.now.texts.now
+        ≡ map package_reference components.now.graph.now.packages }
     ensures { Adds result out.old out.new (data_tokens (array (items_of
-        (map (component_at graph.now (map (option_map license_of) licenses.now)) nodes.now)))) }
+        (map (component_at components.now.graph.now
+        (map (option_map license_of) components.now.licenses.now)) nodes.now)))) }
 {
     out.begin_array()?;
     for node in nodes {
-        put_component(out, alloc, graph, licenses, texts, NodeIndex::new(*node))?;
+        put_component(out, alloc, components, NodeIndex::new(*node))?;
     }
     out.end_array()
 }
 
-/// Writes the member with the component of the root, if there is one, with these licences
-/// of the packages and these texts that refer to them. Fails when out of memory.
+/// Writes the member with the component of the root, if there is one. Fails when out of memory.
 pub(crate) fn put_root(
     out: &mut JsonWriter,
     alloc: Global,
-    graph: &Graph,
-    licenses: &[Option<License>],
-    texts: &[String],
+    components: &Components<'_>,
     root: &Root,
 ) -> Result<(), AllocError>
-    requires within { IsWithin graph.now.packages root.now }
-    requires texts { map string_bytes texts.now ≡ map package_reference graph.now.packages }
+    requires within { IsWithin components.now.graph.now.packages root.now }
+    requires texts { map string_bytes components.now.texts.now
+        ≡ map package_reference components.now.graph.now.packages }
     ensures { Adds result out.old out.new (member_tokens (codes "component")
-        (root_component graph.now (map (option_map license_of) licenses.now) root.now)) }
+        (root_component components.now.graph.now
+        (map (option_map license_of) components.now.licenses.now) root.now)) }
 {
     match root {
-        Root::Package(node) => put_package(out, alloc, graph, licenses, texts, *node),
+        Root::Package(node) => put_package(out, alloc, components, *node),
         Root::Workspace => put_workspace(out),
         Root::Nothing => Ok(()),
     }
@@ -77,18 +89,18 @@ pub(crate) fn put_root(
 fn put_package(
     out: &mut JsonWriter,
     alloc: Global,
-    graph: &Graph,
-    licenses: &[Option<License>],
-    texts: &[String],
+    components: &Components<'_>,
     node: NodeIndex,
 ) -> Result<(), AllocError>
-    requires within { node < length graph.now.packages }
-    requires texts { map string_bytes texts.now ≡ map package_reference graph.now.packages }
+    requires within { node < length components.now.graph.now.packages }
+    requires texts { map string_bytes components.now.texts.now
+        ≡ map package_reference components.now.graph.now.packages }
     ensures { Adds result out.old out.new (member_tokens (codes "component")
-        (Some (component_at graph.now (map (option_map license_of) licenses.now) node))) }
+        (Some (component_at components.now.graph.now
+        (map (option_map license_of) components.now.licenses.now) node))) }
 {
     out.key("component")?;
-    put_component(out, alloc, graph, licenses, texts, node)
+    put_component(out, alloc, components, node)
 }
 
 // Writes the member with the component that represents the packages of the workspace together.
@@ -107,16 +119,20 @@ fn put_workspace(out: &mut JsonWriter) -> Result<(), AllocError>
 fn put_component(
     out: &mut JsonWriter,
     alloc: Global,
-    graph: &Graph,
-    licenses: &[Option<License>],
-    texts: &[String],
+    components: &Components<'_>,
     node: NodeIndex,
 ) -> Result<(), AllocError>
-    requires within { node < length graph.now.packages }
-    requires texts { map string_bytes texts.now ≡ map package_reference graph.now.packages }
-    ensures { Adds result out.old out.new (data_tokens
-        (component_at graph.now (map (option_map license_of) licenses.now) node)) }
+    requires within { node < length components.now.graph.now.packages }
+    requires texts { map string_bytes components.now.texts.now
+        ≡ map package_reference components.now.graph.now.packages }
+    ensures { Adds result out.old out.new (data_tokens (component_at components.now.graph.now
+        (map (option_map license_of) components.now.licenses.now) node)) }
 {
+    let Components {
+        graph,
+        licenses,
+        texts,
+    } = *components;
     let application = is_application(alloc, graph, node)?;
     let license = license_at(licenses, node);
     let text = text_at(texts, node.index());

@@ -16,7 +16,7 @@ ghost use Rattle.cargo_lock_bom.specs.Options.{within};
 ghost use Rattle.cargo_lock_bom.specs.References.{IsRepeatedFault};
 ghost use Rattle.cargo_lock_bom.specs.Serial.{numbered};
 
-use crate::component::{put_components, put_text_if};
+use crate::component::{Components, put_components, put_text_if};
 use crate::contents::{Contents, contents_of};
 use crate::dependencies::put_entries;
 use crate::metadata::put_metadata;
@@ -195,10 +195,15 @@ fn put_bill(
 {
     let texts = contents.texts.as_slice();
     let nodes = contents.nodes.as_slice();
+    let components = Components {
+        graph,
+        licenses: options.licenses,
+        texts,
+    };
     out.begin_object()?;
     out.string_member("bomFormat", "CycloneDX")?;
     out.key("components")?;
-    put_components(out, alloc, graph, options.licenses, texts, nodes)?;
+    put_components(out, alloc, &components, nodes)?;
     out.key("dependencies")?;
     put_entries(out, texts, contents.entries.as_slice())?;
     out.key("metadata")?;

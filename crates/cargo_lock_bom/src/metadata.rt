@@ -11,7 +11,7 @@ ghost use Rattle.cargo_lock_bom.specs.Metadata.{authors_of, lifecycles, properti
 ghost use Rattle.cargo_lock_bom.specs.Metadata.{properties_of, property_object, tools_of};
 ghost use Rattle.cargo_lock_bom.specs.Options.{property_of};
 
-use crate::component::{put_root, put_text_if};
+use crate::component::{Components, put_root, put_text_if};
 use crate::contents::Contents;
 use crate::options::{Options, Property};
 use cargo_lock_graph::graph::Graph;
@@ -32,10 +32,14 @@ pub(crate) fn put_metadata(
     ensures { Adds result out.old out.new (data_tokens
         (metadata_with graph.now «options».now contents.now)) }
 {
-    let texts = contents.texts.as_slice();
+    let components = Components {
+        graph,
+        licenses: options.licenses,
+        texts: contents.texts.as_slice(),
+    };
     out.begin_object()?;
     put_authors(out, options.authors)?;
-    put_root(out, alloc, graph, options.licenses, texts, &contents.root)?;
+    put_root(out, alloc, &components, &contents.root)?;
     put_lifecycles(out)?;
     put_properties(out, options.properties)?;
     put_text_if(out, "timestamp", &contents.time)?;

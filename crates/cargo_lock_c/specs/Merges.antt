@@ -4,7 +4,7 @@ use Rattle.std.specs.Prelude.{IsUtf8, string_bytes}
 use Rattle.cargo_lock.specs.CargoChecksums.{with_cargo_checksums_in}
 use Rattle.cargo_lock_encoding.specs.Lockfiles.{LockfileData}
 use Rattle.cargo_lock_encoding.specs.Means.{TextMeans}
-use Rattle.cargo_lock_merge.specs.Lines.{conflicts_text, merge_error_text, moved_lines}
+use Rattle.cargo_lock_merge.specs.Lines.{conflicts_text, merge_error_text, remark_lines}
 use Rattle.cargo_lock_merge.specs.MergedLockfiles.{IsMergeError, LockfileTriple, MergesTo}
 use Rattle.cargo_lock_merge.specs.MergedLockfiles.{triple_of}
 use Rattle.cargo_lock_merge.specs.Spelling.{with_cargo_spelling}
@@ -12,7 +12,7 @@ use Rattle.cargo_lock_merge.specs.declared.lockfiles.LockfileMerge.{LockfileMerg
 use Rattle.cargo_lock_merge.specs.declared.lockfiles.LockfileMerge.TheVariants as merge
 use Rattle.cargo_lock_merge.specs.declared.lockfiles.MergeError.{MergeError}
 use Rattle.cargo_lock_merge.specs.declared.lockfiles.MergeError.TheVariants as error
-use Rattle.cargo_lock_merge.specs.declared.moved.Moved.{Moved as Reference}
+use Rattle.cargo_lock_merge.specs.declared.notice.Remarks.{Remarks}
 use Rattle.cargo_lock_merge_core.specs.declared.triple.Role.{Role}
 use Rattle.cargo_lock_merge_core.specs.declared.triple.Role.TheVariants.{Base, Ours, Theirs}
 use Rattle.cargo_lock_parts.specs.Ascii.{newline}
@@ -75,16 +75,16 @@ status_with (Refused Base) = 16
 status_with (Refused Ours) = 17
 status_with (Refused Theirs) = 18
 
--- what is asked of a merge that there is: its text, or its moved references
-abbrev pub asked_text : Part → List ℕ → List Reference → List ℕ
-asked_text Text text moved = text
-asked_text Moved text moved = moved_lines moved
+-- what is asked of a merge that there is: its text, or the lines of what it reports
+abbrev pub asked_text : Part → List ℕ → Remarks → List ℕ
+asked_text Text text remarks = text
+asked_text Moved text remarks = remark_lines remarks
 
 -- how a merge of lockfiles ends, and the text about it: what is asked of it, or a line for each
 -- conflict
 abbrev pub IsTextAbout : Part → LockfileMerge → Ending → List ℕ → Type 0
-IsTextAbout part (merge.Merged l text moved) ending bytes = (ending ≡ Merged)
-    × (bytes ≡ asked_text part (string_bytes text) moved.items)
+IsTextAbout part (merge.Merged l text remarks) ending bytes = (ending ≡ Merged)
+    × (bytes ≡ asked_text part (string_bytes text) remarks)
 IsTextAbout part (merge.InConflict conflicts) ending bytes = (ending ≡ InConflict)
     × (bytes ≡ conflicts_text conflicts)
 

@@ -11,7 +11,7 @@ use crate::handing::hand_out;
 use crate::refusal::{DONE, Refusal};
 use crate::three::{Three, read_three};
 use cargo_lock_merge::lockfiles::{LockfileMerge, MergeError, merge_lockfiles};
-use cargo_lock_merge::moved::{Moved, moved_lines};
+use cargo_lock_merge::notice::Remarks;
 use cargo_lock_merge_core::triple::Role;
 use std::alloc::Global;
 
@@ -21,7 +21,7 @@ enum Part {
     /// Its text.
     Text,
 
-    /// The lines of its moved references.
+    /// The lines of what it reports: versions, alarms and moved references.
     Moved,
 }
 
@@ -155,9 +155,9 @@ fn merge_answer(alloc: Global, merge: LockfileMerge<'_>, part: Part) -> Result<A
     ensures err { IfErr result (λ refusal. refusal ≡ NoMemory) }
 {
     match merge {
-        LockfileMerge::Merged(_, text, moved) => Ok(Answer {
+        LockfileMerge::Merged(_, text, remarks) => Ok(Answer {
             ending: Ending::Merged,
-            text: part_text(alloc, part, text, &moved)?,
+            text: part_text(alloc, part, text, &remarks)?,
         }),
         LockfileMerge::InConflict(conflicts) => Ok(Answer {
             ending: Ending::InConflict,
@@ -166,20 +166,20 @@ fn merge_answer(alloc: Global, merge: LockfileMerge<'_>, part: Part) -> Result<A
     }
 }
 
-/// What is asked of a merge with this text and these moved references.
+/// What is asked of a merge with this text, which reports this.
 fn part_text(
     alloc: Global,
     part: Part,
     text: String,
-    moved: &[Moved<'_>],
+    remarks: &Remarks<'_>,
 ) -> Result<String, Refusal>
     ensures ok { IfOk result (λ asked. string_bytes asked
-        ≡ asked_text part (string_bytes text) moved.now) }
+        ≡ asked_text part (string_bytes text) remarks.now) }
     ensures err { IfErr result (λ refusal. refusal ≡ NoMemory) }
 {
     match part {
         Part::Text => Ok(text),
-        Part::Moved => Ok(moved_lines(alloc, moved)?),
+        Part::Moved => Ok(remarks.lines(alloc)?),
     }
 }
 

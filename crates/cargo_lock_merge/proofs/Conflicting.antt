@@ -11,39 +11,41 @@ use Rattle.lists.proofs.Pairs.{pairs-append}
 use Rattle.cargo_lock_merge_core.specs.declared.commits.SourceCommits.{SourceCommits}
 use Rattle.cargo_lock_merge_core.specs.declared.conflicts.Conflict as merging
 use Rattle.cargo_lock_merge_core.specs.declared.conflicts.Kind.{Kind}
-use Rattle.cargo_lock_merge_core.specs.declared.conflicts.Kind.TheVariants.{Checksum, Package, Replacement}
+use Rattle.cargo_lock_merge_core.specs.declared.conflicts.Kind.TheVariants.{Checksum, LostChecksum, Package, Replacement, Version}
 use Rattle.cargo_lock_merge_core.specs.Conflicts.{AreConflicts, IsConflictAt, conflict_of, conflict_places}
 use Rattle.cargo_lock_merge_core.specs.Disputes.{AreDisputes, AreInDispute, HasCommits, source_key}
-use Rattle.cargo_lock_merge_core.specs.Merge.{ConflictData, IsConflict, OfChecksum, OfPackage, OfReplacement, OfSource, Triple, lockfiles_of}
+use Rattle.cargo_lock_merge_core.specs.Merge.{IsConflicting, MatterData, IsMatter, OfChecksum, OfLostChecksum, OfPackage, OfReplacement, OfSource, OfVersion, Triple, lockfiles_of}
 use Rattle.cargo_lock_merge_core.proofs.Ascending.{far-below}
 use Rattle.lists.proofs.Members.{in-map, map-in}
 use Rattle.cargo_lock_merge_core.proofs.Permuting.{map-permuted, pairs-permuted}
 use Rattle.cargo_lock_merge.specs.declared.conflict.Conflict.{Conflict}
 use Rattle.cargo_lock_merge.specs.declared.conflict.Conflict.TheVariants as variant
+use Rattle.cargo_lock_merge.specs.Notice.{AreNotices}
 use Rattle.cargo_lock_merge.specs.Conflict.{AreConflictsAtPlaces, AreConflictsOf, HasSubject, IsAtPlace, conflict_subject, subject_at}
 
-place-in : ConflictData ℕ → ℕ
+place-in : MatterData ℕ → ℕ
 place-in (OfPackage p) = p
 place-in (OfChecksum p) = p
 place-in (OfReplacement p) = p
 place-in (OfSource g) = 0
+place-in (OfVersion p) = p
+place-in (OfLostChecksum p) = p
 
-key-in : Key → ConflictData ℕ → Key
+key-in : Key → MatterData ℕ → Key
 key-in h (OfPackage p) = h
 key-in h (OfChecksum p) = h
 key-in h (OfReplacement p) = h
 key-in h (OfSource g) = g
+key-in h (OfVersion p) = h
+key-in h (OfLostChecksum p) = h
 
 place-back : (kind : Kind) (p : ℕ) → place-in (conflict_of kind p) ≡ p
 unfolding place-in
 place-back Package p = refl
 place-back Checksum p = refl
 place-back Replacement p = refl
-
-at-place : (kind : Kind) (p : ℕ) → IsAtPlace (conflict_of kind p)
-at-place Package p = tt
-at-place Checksum p = tt
-at-place Replacement p = tt
+place-back Version p = refl
+place-back LostChecksum p = refl
 
 -- ---- those about one thing
 
@@ -56,13 +58,13 @@ module _ (s : Triple ℕ) (kind : Kind) (cs : List merging.Conflict) (h : AreCon
   subjects : map subject_at cs ≡ map (conflict_of kind) (conflict_places cs)
   subjects = kinds cs (λ c (k, low, is). subst (λ (z : merging.Conflict). z.kind ≡ kind) is (h.each k c low).3.kind)
 
-  pub exact-of : (c : ConflictData ℕ) → Contains (map subject_at cs) c ↔ ((p : ℕ) × (conflict_of kind p ≡ c) × IsConflict s c)
+  pub exact-of : (c : MatterData ℕ) → Contains (map subject_at cs) c ↔ ((p : ℕ) × (conflict_of kind p ≡ c) × IsMatter s c)
   exact-of c = (
     λ k.
-        let (p, among, is) = map-in (conflict_of kind) (conflict_places cs) c (subst (λ (zs : List (ConflictData ℕ)). Contains zs c) subjects k) in
-        (p, is, subst (IsConflict s) is ((h.holds p).0 among)),
-    λ (p, is, k). subst (λ (zs : List (ConflictData ℕ)). Contains zs c) (sym subjects)
-        (subst (Contains (map (conflict_of kind) (conflict_places cs))) is (in-map (conflict_of kind) (conflict_places cs) p ((h.holds p).1 (subst (IsConflict s) (sym is) k)))),
+        let (p, among, is) = map-in (conflict_of kind) (conflict_places cs) c (subst (λ (zs : List (MatterData ℕ)). Contains zs c) subjects k) in
+        (p, is, subst (IsMatter s) is ((h.holds p).0 among)),
+    λ (p, is, k). subst (λ (zs : List (MatterData ℕ)). Contains zs c) (sym subjects)
+        (subst (Contains (map (conflict_of kind) (conflict_places cs))) is (in-map (conflict_of kind) (conflict_places cs) p ((h.holds p).1 (subst (IsMatter s) (sym is) k)))),
   )
 
   pub once-of : AllPairs (λ a b. a ≢ b) (map subject_at cs)
@@ -97,7 +99,7 @@ module _ (s : Triple ℕ) (ps cs rs : List merging.Conflict) (packages : AreConf
   unfolding joined
   subjects-joined = map-append subject_at (ps ++ cs) rs ∙ ap (λ zs. zs ++ map subject_at rs) (map-append subject_at ps cs)
 
-  from-joined : (c : ConflictData ℕ) → Contains ((map subject_at ps ++ map subject_at cs) ++ map subject_at rs) c → IsAtPlace c × IsConflict s c
+  from-joined : (c : MatterData ℕ) → Contains ((map subject_at ps ++ map subject_at cs) ++ map subject_at rs) c → IsAtPlace c × IsMatter s c
   from-joined c k = elim (Contains-append_cases (map subject_at ps ++ map subject_at cs) (map subject_at rs) c k) [
     | inl front ↦ elim (Contains-append_cases (map subject_at ps) (map subject_at cs) c front) [
       | inl a ↦ let (p, is, conflict) = (exact-of s Package ps packages c).0 a in (subst IsAtPlace is tt, conflict)
@@ -106,7 +108,7 @@ module _ (s : Triple ℕ) (ps cs rs : List merging.Conflict) (packages : AreConf
     | inr a ↦ let (p, is, conflict) = (exact-of s Replacement rs replacements c).0 a in (subst IsAtPlace is tt, conflict)
   ]
 
-  to-joined : (c : ConflictData ℕ) → IsAtPlace c → IsConflict s c → Contains ((map subject_at ps ++ map subject_at cs) ++ map subject_at rs) c
+  to-joined : (c : MatterData ℕ) → IsAtPlace c → IsMatter s c → Contains ((map subject_at ps ++ map subject_at cs) ++ map subject_at rs) c
   to-joined (OfPackage p) at k = Contains-append_left (map subject_at ps ++ map subject_at cs) (map subject_at rs) (OfPackage p)
       (Contains-append_left (map subject_at ps) (map subject_at cs) (OfPackage p) ((exact-of s Package ps packages (OfPackage p)).1 (p, refl, k)))
   to-joined (OfChecksum p) at k = Contains-append_left (map subject_at ps ++ map subject_at cs) (map subject_at rs) (OfChecksum p)
@@ -114,6 +116,8 @@ module _ (s : Triple ℕ) (ps cs rs : List merging.Conflict) (packages : AreConf
   to-joined (OfReplacement p) at k = Contains-append_right (map subject_at ps ++ map subject_at cs) (map subject_at rs) (OfReplacement p)
       ((exact-of s Replacement rs replacements (OfReplacement p)).1 (p, refl, k))
   to-joined (OfSource g) at k = absurd at
+  to-joined (OfVersion p) at k = absurd at
+  to-joined (OfLostChecksum p) at k = absurd at
 
   once-joined : AllPairs (λ a b. a ≢ b) ((map subject_at ps ++ map subject_at cs) ++ map subject_at rs)
   once-joined =
@@ -139,8 +143,8 @@ module _ (s : Triple ℕ) (ps cs rs : List merging.Conflict) (packages : AreConf
       let back = IsPermutation-sym (map subject_at ((ps ++ cs) ++ rs)) (map subject_at all) moved in
       record {
         exact = λ c. (
-          λ k. from-joined c (subst (λ (zs : List (ConflictData ℕ)). Contains zs c) subjects-joined (Contains-permutation (map subject_at all) (map subject_at ((ps ++ cs) ++ rs)) c back k)),
-          λ k. Contains-permutation (map subject_at ((ps ++ cs) ++ rs)) (map subject_at all) c moved (subst (λ (zs : List (ConflictData ℕ)). Contains zs c) (sym subjects-joined) (to-joined c k.0 k.1)),
+          λ k. from-joined c (subst (λ (zs : List (MatterData ℕ)). Contains zs c) subjects-joined (Contains-permutation (map subject_at all) (map subject_at ((ps ++ cs) ++ rs)) c back k)),
+          λ k. Contains-permutation (map subject_at ((ps ++ cs) ++ rs)) (map subject_at all) c moved (subst (λ (zs : List (MatterData ℕ)). Contains zs c) (sym subjects-joined) (to-joined c k.0 k.1)),
         );
         once = pairs-permuted (λ a b. a ≢ b) (λ a b apart e. apart (sym e)) (map subject_at ((ps ++ cs) ++ rs)) (map subject_at all) moved
             (subst (AllPairs (λ a b. a ≢ b)) (sym subjects-joined) once-joined);
@@ -149,10 +153,53 @@ module _ (s : Triple ℕ) (ps cs rs : List merging.Conflict) (packages : AreConf
             (each-of s Replacement rs replacements));
       }
 
+-- ---- those that are no conflicts
+
+module _ (s : Triple ℕ) (vs ls : List merging.Conflict) (versions : AreConflicts s Version vs) (lost : AreConflicts s LostChecksum ls) where
+  told : map subject_at (vs ++ ls) ≡ map subject_at vs ++ map subject_at ls
+  told = map-append subject_at vs ls
+
+  told-from : (c : MatterData ℕ) → Contains (map subject_at vs ++ map subject_at ls) c → (¬ IsConflicting c) × IsMatter s c
+  told-from c k = elim (Contains-append_cases (map subject_at vs) (map subject_at ls) c k) [
+    | inl a ↦ let (p, is, matter) = (exact-of s Version vs versions c).0 a in (subst (λ (d : MatterData ℕ). ¬ IsConflicting d) is (λ none. none), matter)
+    | inr a ↦ let (p, is, matter) = (exact-of s LostChecksum ls lost c).0 a in (subst (λ (d : MatterData ℕ). ¬ IsConflicting d) is (λ none. none), matter)
+  ]
+
+  told-to : (c : MatterData ℕ) → ¬ IsConflicting c → IsMatter s c → Contains (map subject_at vs ++ map subject_at ls) c
+  told-to (OfPackage p) none k = absurd (none tt)
+  told-to (OfChecksum p) none k = absurd (none tt)
+  told-to (OfReplacement p) none k = absurd (none tt)
+  told-to (OfSource g) none k = absurd (none tt)
+  told-to (OfVersion p) none k = Contains-append_left (map subject_at vs) (map subject_at ls) (OfVersion p) ((exact-of s Version vs versions (OfVersion p)).1 (p, refl, k))
+  told-to (OfLostChecksum p) none k =
+      Contains-append_right (map subject_at vs) (map subject_at ls) (OfLostChecksum p) ((exact-of s LostChecksum ls lost (OfLostChecksum p)).1 (p, refl, k))
+
+  told-once : AllPairs (λ a b. a ≢ b) (map subject_at vs ++ map subject_at ls)
+  told-once = pairs-append (λ a b. a ≢ b) (map subject_at vs) (map subject_at ls) (once-of s Version vs versions) (once-of s LostChecksum ls lost)
+      (λ x y a b e.
+      let (p, is, k) = (exact-of s Version vs versions x).0 a in
+      let (q, is', k') = (exact-of s LostChecksum ls lost y).0 b in
+      let n : OfVersion p ≡ OfLostChecksum q = is ∙ e ∙ sym is' in cc)
+
+  -- in another order
+  pub are-notices : (all : List merging.Conflict) → IsPermutation (vs ++ ls) all → AreNotices s all
+  are-notices all perm =
+      let moved = map-permuted subject_at (vs ++ ls) all perm in
+      let back = IsPermutation-sym (map subject_at (vs ++ ls)) (map subject_at all) moved in
+      record {
+        exact = λ c. (
+          λ k. told-from c (subst (λ (zs : List (MatterData ℕ)). Contains zs c) told (Contains-permutation (map subject_at all) (map subject_at (vs ++ ls)) c back k)),
+          λ k. Contains-permutation (map subject_at (vs ++ ls)) (map subject_at all) c moved (subst (λ (zs : List (MatterData ℕ)). Contains zs c) (sym told) (told-to c k.0 k.1)),
+        );
+        once = pairs-permuted (λ a b. a ≢ b) (λ a b apart e. apart (sym e)) (map subject_at (vs ++ ls)) (map subject_at all) moved (subst (AllPairs (λ a b. a ≢ b)) (sym told) told-once);
+        each = All-permutation (λ c. IsConflictAt s c.kind c) (vs ++ ls) all perm
+            (All-append (λ c. IsConflictAt s c.kind c) vs ls (each-of s Version vs versions) (each-of s LostChecksum ls lost));
+      }
+
 -- ---- with the sources
 
 module _ (s : Triple ℕ) (at : List merging.Conflict) (places : AreConflictsAtPlaces s at) (old new : List SourceCommits) (disputes : AreDisputes s old) (perm : IsPermutation old new) where
-  source-of : SourceCommits → ConflictData ℕ
+  source-of : SourceCommits → MatterData ℕ
   source-of c = OfSource (source_key c)
 
   subjects-all : map conflict_subject (map variant.AtPlace at ++ map variant.OfSource new) ≡ map subject_at at ++ map source-of new
@@ -163,7 +210,7 @@ module _ (s : Triple ℕ) (at : List merging.Conflict) (places : AreConflictsAtP
   moved : IsPermutation (map source_key old) (map source_key new)
   moved = map-permuted source_key old new perm
 
-  source-exact : (c : ConflictData ℕ) → Contains (map source-of new) c ↔ ((g : Key) × (OfSource g ≡ c) × IsConflict s c)
+  source-exact : (c : MatterData ℕ) → Contains (map source-of new) c ↔ ((g : Key) × (OfSource g ≡ c) × IsMatter s c)
   unfolding source-of
   source-exact c = (
     λ k.
@@ -171,18 +218,18 @@ module _ (s : Triple ℕ) (at : List merging.Conflict) (places : AreConflictsAtP
         let g = source_key d in (
           g,
           is,
-          subst (IsConflict s) is ((disputes.exact g).0
+          subst (IsMatter s) is ((disputes.exact g).0
               (Contains-permutation (map source_key new) (map source_key old) g (IsPermutation-sym (map source_key old) (map source_key new) moved) (in-map source_key new d among))),
         ),
     λ (g, is, k).
-        let (d, among, same) = map-in source_key new g (Contains-permutation (map source_key old) (map source_key new) g moved ((disputes.exact g).1 (subst (IsConflict s) (sym is) k))) in
+        let (d, among, same) = map-in source_key new g (Contains-permutation (map source_key old) (map source_key new) g moved ((disputes.exact g).1 (subst (IsMatter s) (sym is) k))) in
         subst (Contains (map (λ (c : SourceCommits). OfSource (source_key c)) new)) (ap OfSource same ∙ is) (in-map (λ (c : SourceCommits). OfSource (source_key c)) new d among),
   )
 
   source-once : AllPairs (λ a b. a ≢ b) (map source-of new)
   unfolding source-of key-in
   source-once i j d less low e =
-      let f : SourceCommits → ConflictData ℕ = λ c. OfSource (source_key c) in
+      let f : SourceCommits → MatterData ℕ = λ c. OfSource (source_key c) in
       let long = length-map new f in
       let long' = length-map new source_key in
       let low' : j < length new = omega (arith, low, long) in
@@ -197,20 +244,30 @@ module _ (s : Triple ℕ) (at : List merging.Conflict) (places : AreConflictsAtP
       first-of [] j low = absurd (omega (arith, low))
       first-of (x ∷ xs) j low = x
 
-  by : (c : ConflictData ℕ) → IsConflict s c → Contains (map subject_at at) c ⊎ Contains (map source-of new) c
-  by (OfPackage p) k = inl ((places.exact (OfPackage p)).1 (tt, k))
-  by (OfChecksum p) k = inl ((places.exact (OfChecksum p)).1 (tt, k))
-  by (OfReplacement p) k = inl ((places.exact (OfReplacement p)).1 (tt, k))
-  by (OfSource g) k = inr ((source-exact (OfSource g)).1 (g, refl, k))
+  by : (c : MatterData ℕ) → IsConflicting c → IsMatter s c → Contains (map subject_at at) c ⊎ Contains (map source-of new) c
+  by (OfPackage p) is k = inl ((places.exact (OfPackage p)).1 (tt, k))
+  by (OfChecksum p) is k = inl ((places.exact (OfChecksum p)).1 (tt, k))
+  by (OfReplacement p) is k = inl ((places.exact (OfReplacement p)).1 (tt, k))
+  by (OfSource g) is k = inr ((source-exact (OfSource g)).1 (g, refl, k))
+  by (OfVersion p) is k = absurd is
+  by (OfLostChecksum p) is k = absurd is
+
+  at-conflicting : (c : MatterData ℕ) → IsAtPlace c → IsConflicting c
+  at-conflicting (OfPackage p) at = tt
+  at-conflicting (OfChecksum p) at = tt
+  at-conflicting (OfReplacement p) at = tt
+  at-conflicting (OfSource g) at = tt
+  at-conflicting (OfVersion p) at = absurd at
+  at-conflicting (OfLostChecksum p) at = absurd at
 
   pub are-conflicts : (all : List Conflict) → all ≡ map variant.AtPlace at ++ map variant.OfSource new → AreConflictsOf s all
   are-conflicts all is = subst (AreConflictsOf s) (sym is) record {
     exact = λ c. (
-      λ k. elim (Contains-append_cases (map subject_at at) (map source-of new) c (subst (λ (zs : List (ConflictData ℕ)). Contains zs c) subjects-all k)) [
-        | inl a ↦ ((places.exact c).0 a).1
-        | inr a ↦ ((source-exact c).0 a).2
+      λ k. elim (Contains-append_cases (map subject_at at) (map source-of new) c (subst (λ (zs : List (MatterData ℕ)). Contains zs c) subjects-all k)) [
+        | inl a ↦ let (at, k') = (places.exact c).0 a in (at-conflicting c at, k')
+        | inr a ↦ let (g, is, k') = (source-exact c).0 a in (subst IsConflicting is tt, k')
       ],
-      λ k. subst (λ (zs : List (ConflictData ℕ)). Contains zs c) (sym subjects-all) (elim (by c k) [
+      λ k. subst (λ (zs : List (MatterData ℕ)). Contains zs c) (sym subjects-all) (elim (by c k.0 k.1) [
         | inl a ↦ Contains-append_left (map subject_at at) (map source-of new) c a
         | inr a ↦ Contains-append_right (map subject_at at) (map source-of new) c a
       ]),

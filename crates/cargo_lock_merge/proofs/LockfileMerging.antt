@@ -26,7 +26,7 @@ use Rattle.cargo_lock_merge.proofs.Sorting.{referring-in-order}
 use Rattle.cargo_lock_merge.specs.Outcome.{AreInConflictAbout, IsMergeFound}
 use Rattle.cargo_lock_merge.specs.Referring.{IsReferring}
 use Rattle.cargo_lock_merge.specs.declared.conflict.Conflict.{Conflict}
-use Rattle.cargo_lock_merge.specs.declared.moved.Moved.{Moved}
+use Rattle.cargo_lock_merge.specs.declared.notice.Remarks.{Remarks}
 use Rattle.cargo_lock_merge.specs.declared.lockfiles.Rest.{Rest}
 use Rattle.cargo_lock_merge.specs.OwnMetadata.{AreMetadataConflicts, AreMetadataOf, IsMergedAt, IsMetadataConflictAt, own_metadata, value_at_key}
 use Rattle.cargo_lock_merge.specs.declared.metadata.MetadataConflict.{MetadataConflict}
@@ -146,7 +146,7 @@ agreed-conflicts s l none empty h key =
 -- ---- the whole
 
 -- the parts of a merge without conflicts are a merged lockfile
-pub merged-lockfile : (s : LockfileTriple) (r : Rest) (merged packages : List PackageData) (rs : List Moved) → HaveNoRoots s → IsMergeFound (packages_of s) merged rs → AllZip IsReferring merged packages
+pub merged-lockfile : (s : LockfileTriple) (r : Rest) (merged packages : List PackageData) (rs : Remarks) → HaveNoRoots s → IsMergeFound (packages_of s) merged rs → AllZip IsReferring merged packages
     → btree_map_len r.metadata.conflicts ≡ 0 → IsRestOf s r → IsMergedLockfile s (joined_lockfile packages r) rs
 merged-lockfile s r merged packages rs roots found refers none rest = record {
   roots = roots;
@@ -165,5 +165,5 @@ conflicting all [] h = absurd (h.some refl)
 conflicting all (c ∷ cs) h = h
 
 -- a merge has no conflicts of packages
-pub no-conflicting : (all : Lockfiles) (cs : List Conflict) (ps : List PackageData) (rs : List Moved) → cs ≡ [] → IsMergeFound all ps rs → AreConflictingPackages all cs
+pub no-conflicting : (all : Lockfiles) (cs : List Conflict) (ps : List PackageData) (rs : Remarks) → cs ≡ [] → IsMergeFound all ps rs → AreConflictingPackages all cs
 no-conflicting all cs ps rs none found = subst (λ (xs : List Conflict). AreConflictingPackages all xs) (sym none) (ps, rs, found)

@@ -101,11 +101,11 @@ module _ (packages : List PackageData) (i : Identity) where
 -- ---- lines
 
 -- after the lines of the references before it, that of the next one
-pub moved-more : (ms : List Moved) (i : ℕ) (m : Moved) (a b line : List ℕ)
-    → i < length ms → m ≡ get_or ms i m → a ≡ moved_lines (take i ms)
-    → line ≡ moved_line m ++ 10 ∷ [] → b ≡ a ++ line → b ≡ moved_lines (take (i + 1) ms)
-moved-more ms i m a b line within is before text after =
-    let ended : Moved → List ℕ = λ r. moved_line r ++ 10 ∷ [] in
-    let item : take (i + 1) ms ≡ take i ms ++ m ∷ [] = take_more ms i m within ∙ ap (λ (x : Moved). take i ms ++ x ∷ []) (sym is) in
-    let more : a ++ line ≡ flat_map ended (take i ms) ++ ended m = rw (before, text) refl in
-    after ∙ more ∙ flat_map_more ended [] (take i ms) m ∙ ap (flat_map ended) (sym item)
+pub lines-more : {X : Type 0} (f : X → List ℕ) (xs : List X) (i : ℕ) (x : X) (a b line : List ℕ)
+    → i < length xs → x ≡ get_or xs i x → a ≡ flat_map (λ y. f y ++ 10 ∷ []) (take i xs)
+    → line ≡ f x ++ 10 ∷ [] → b ≡ a ++ line → b ≡ flat_map (λ y. f y ++ 10 ∷ []) (take (i + 1) xs)
+lines-more {X = X} f xs i x a b line within is before text after =
+    let ended : X → List ℕ = λ y. f y ++ 10 ∷ [] in
+    let item : take (i + 1) xs ≡ take i xs ++ x ∷ [] = take_more xs i x within ∙ ap (λ (y : X). take i xs ++ y ∷ []) (sym is) in
+    let more : a ++ line ≡ flat_map ended (take i xs) ++ ended x = rw (before, text) refl in
+    after ∙ more ∙ flat_map_more ended [] (take i xs) x ∙ ap (flat_map ended) (sym item)

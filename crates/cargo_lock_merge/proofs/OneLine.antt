@@ -6,6 +6,10 @@ use Rattle.printing.proofs.Printable.{Prints, either_text, empty, join, literal,
 use Rattle.cargo_lock_parts.specs.Identity.{Identity, PackageData, identity_of}
 use Rattle.cargo_lock_parts.specs.IdentityOrder.{is_same_identity}
 use Rattle.cargo_lock_parts.specs.Source.{Branch, DefaultBranch, Directory, Git, GitReference, Kind, LocalRegistry, Path, Registry, Rev, Source, SparseRegistry, Tag, is_git}
+use Rattle.std.specs.Borrow.{Bor}
+use Rattle.cargo_lock_merge_core.specs.declared.conflicts.Conflict as merging
+use Rattle.cargo_lock_merge_core.specs.declared.conflicts.Kind as matter
+use Rattle.cargo_lock_merge_core.specs.declared.conflicts.Kind.TheVariants as kind
 use Rattle.cargo_lock_merge_core.specs.declared.moved.Reference.{Reference}
 use Rattle.cargo_lock_merge_core.specs.declared.refusal.Refusal.{Refusal}
 use Rattle.cargo_lock_merge_core.specs.declared.refusal.Refusal.TheVariants.{Lost, OnePlace, TwoCommits, Unreplaced}
@@ -19,7 +23,7 @@ use Rattle.cargo_lock_merge.specs.declared.moved.Moved.{Moved}
 use Rattle.cargo_lock_merge.specs.declared.words.Value.{Value}
 use Rattle.cargo_lock_merge.specs.declared.words.Value.TheVariants as value
 use Rattle.cargo_lock_merge.specs.declared.words.Values.{Values}
-use Rattle.cargo_lock_merge.specs.Lines.{ConflictsAreLines, MovedAreLines, RefusalsAreLines, before_text, commit_values, conflict_line, line_of, moved_line, moved_text, one_place_text, reason_text, refused_line, role_text, subject_text}
+use Rattle.cargo_lock_merge.specs.Lines.{ConflictsAreLines, MovedAreLines, NoticesAreLines, RefusalsAreLines, before_text, commit_values, conflict_line, lacks_checksum, line_of, moved_line, moved_text, notice_by, notice_line, one_place_text, reason_text, refused_line, role_text, sides_named, subject_text, versions_text}
 use Rattle.cargo_lock_merge.specs.Words.{bare_source_behind, bare_text, both_text, commit_mark, commit_text, identity_text, mark_of, query_of, reference_query, replacement_with_commit, side_value_text, source_text, values_by, values_text, with_commit_text}
 use Rattle.cargo_lock_display.proofs.Printed.{checksum-prints, named-prints}
 
@@ -116,6 +120,33 @@ moved-prints r = words (codes "moved: ") refl (join (moved-text-prints r.found.m
 
 pub moved-are-lines : MovedAreLines
 moved-are-lines = each-is-line moved_line moved-prints
+
+versions-print : (o t : PackageData) → Prints (versions_text o t)
+versions-print o t = join (shown-prints Plain _) (words (codes ": ") refl (join (shown-prints Plain _) (words (codes " (ours), ") refl (join (shown-prints Plain _) (literal (codes " (theirs)") refl)))))
+
+sides-print : (o t : Bool) → Prints (sides_named o t)
+sides-print o t = either_text o
+    (either_text t (literal (codes "ours and theirs") refl) (literal (codes "ours") refl))
+    (either_text t (literal (codes "theirs") refl) (literal (codes "none") refl))
+
+none-prints : Prints (codes "none")
+none-prints = literal (codes "none") refl
+
+notice-by-prints : (k : matter.Kind) (b o t : Option (Bor PackageData)) → Prints (notice_by k b o t)
+notice-by-prints kind.Version b (Some o) (Some t) = words (codes "version: ") refl (join (versions-print o.now t.now) (literal (codes ": its manifest decides") refl))
+notice-by-prints kind.Version b None t = none-prints
+notice-by-prints kind.Version b (Some o) None = none-prints
+notice-by-prints kind.LostChecksum None o t = none-prints
+notice-by-prints kind.LostChecksum (Some b) o t = words (codes "alarm: ") refl (join (named-prints b.now) (words (codes ": checksum gone in ") refl (sides-print (lacks_checksum b.now o) (lacks_checksum b.now t))))
+notice-by-prints kind.Package b o t = none-prints
+notice-by-prints kind.Checksum b o t = none-prints
+notice-by-prints kind.Replacement b o t = none-prints
+
+notice-prints : (c : merging.Conflict) → Prints (notice_line c)
+notice-prints c = notice-by-prints c.kind c.base c.ours c.theirs
+
+pub notices-are-lines : NoticesAreLines
+notices-are-lines = each-is-line notice_line notice-prints
 
 role-prints : (r : Role) → Prints (role_text r)
 role-prints role.Base = literal (codes "base") refl

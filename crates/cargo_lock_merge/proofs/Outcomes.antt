@@ -51,7 +51,7 @@ listed xs h = record { order = h.order; each = h.each }
 -- where there is a conflict, it is among all of them
 pub some-listed : (s : Triple ℕ) (cs : List Conflict) → AreInConflict s → AreConflictsOf s cs → cs ≢ []
 some-listed s cs conflict are none =
-    conflict (λ c k. none-in c (subst (λ (ds : List Conflict). Contains (map conflict_subject ds) c) none ((are.exact c).1 k)))
+    conflict (λ c is k. none-in c (subst (λ (ds : List Conflict). Contains (map conflict_subject ds) c) none ((are.exact c).1 (is, k))))
 
 -- ---- the references of assembled packages
 
@@ -77,7 +77,7 @@ module _ (m xs : List (PlacedData ℕ)) (ps : List PackageData) (perm : IsPermut
 
 -- what is found by numbers is found
 pub finds : (all : Lockfiles) (s : Triple ℕ) (o : Outcome) → AreSidesOf all s → IsOutcomeOf s o → FindsMerge all o
-finds all s (Merged packages moved) (places, are) (m, merge, ((xs, perm, zip), order, references, apart)) = record {
+finds all s (Merged packages remarks) (places, are) (m, merge, ((xs, perm, zip), order, references, notices, apart)) = record {
   commits = record { base = are.base_commits; ours = are.our_commits; theirs = are.their_commits };
   merge = assembled-merge all places s m packages.items are merge (xs, perm, zip);
   order = order;
@@ -89,6 +89,7 @@ finds all s (Merged packages moved) (places, are) (m, merge, ((xs, perm, zip), o
   merged = merge;
   assembled = (xs, perm, zip);
   moved = references;
+  notices = notices;
   once = all-once all places s are m merge packages.items apart;
 }
 finds all s (Conflicts conflicts) (places, are) (none, listed, some) = record {
@@ -101,6 +102,6 @@ finds all s (Conflicts conflicts) (places, are) (none, listed, some) = record {
 }
 
 -- the outcome of a merge by numbers
-pub is-outcome : (s : Triple ℕ) (m : List (PlacedData ℕ)) (o : Outcome) → IsMerge s m → IsMergedOf s.ours s.theirs m o → IsOutcomeOf s o
-is-outcome s m (Merged packages moved) merge are = (m, merge, are)
+pub is-outcome : (s : Triple ℕ) (m : List (PlacedData ℕ)) (o : Outcome) → IsMerge s m → IsMergedOf s m o → IsOutcomeOf s o
+is-outcome s m (Merged packages remarks) merge are = (m, merge, are)
 is-outcome s m (Conflicts conflicts) merge are = absurd are

@@ -5,10 +5,12 @@ use Rattle.std.specs.List.{AllPairs, AllZip, Contains}
 use Rattle.cargo_lock_parts.specs.Identity.{PackageData}
 use Rattle.cargo_lock_merge_core.specs.ByPlaces.{AreAllPlaced, HasPackagesAt, IsMovedBetween, place_in}
 use Rattle.cargo_lock_merge_core.specs.ByPlaces.{places_between}
+use Rattle.cargo_lock_merge_core.specs.declared.conflicts.Conflict as merging
 use Rattle.cargo_lock_merge_core.specs.Commits.{Lockfiles}
 use Rattle.cargo_lock_merge_core.specs.Conflicts.{conflict_of}
 use Rattle.cargo_lock_merge_core.specs.Disputes.{AreInDispute, HasCommits, source_key}
-use Rattle.cargo_lock_merge_core.specs.Merge.{ConflictData, IsConflict, IsMerge, IsMovedReference, Triple}
+use Rattle.cargo_lock_merge_core.specs.Merge.{IsConflicting, IsMatter, IsMerge, IsMovedReference}
+use Rattle.cargo_lock_merge_core.specs.Merge.{MatterData, Triple}
 use Rattle.cargo_lock_merge_core.specs.Merge as merge
 use Rattle.cargo_lock_merge_core.specs.Placed.{PlacedData}
 use Rattle.cargo_lock_merge_core.specs.Places.{IsMergeOf, Place}
@@ -26,7 +28,7 @@ use Rattle.cargo_lock_merge.specs.Referring.{IsReferring}
 -- ---- conflicts
 
 -- what the conflict is about: what is at the place of its packages, or its git source
-abbrev pub subject_in : Lockfiles → Conflict → Option (ConflictData Place)
+abbrev pub subject_in : Lockfiles → Conflict → Option (MatterData Place)
 subject_in all (AtPlace c) = option_map (conflict_of c.kind) (place_in all c)
 subject_in all (OfSource c) = Some (merge.OfSource (source_key c))
 
@@ -41,8 +43,8 @@ pub record AreConflictsByPlaces (all : Lockfiles) (cs : List Conflict) : Type 0 
   pub placed : Triple Place
   pub lists : AreAllPlaced all placed
   pub none : (m : List (PlacedData Place)) → ¬ IsMerge placed m
-  pub exact : (c : ConflictData Place) → Contains (map (subject_in all) cs) (Some c)
-      ↔ IsConflict placed c
+  pub exact : (c : MatterData Place) → Contains (map (subject_in all) cs) (Some c)
+      ↔ (IsConflicting c × IsMatter placed c)
   pub once : AllPairs (λ a b. a ≢ b) (map (subject_in all) cs)
   pub each : All (HasSubjectIn all placed) cs
   pub some : cs ≢ []
@@ -66,11 +68,31 @@ pub record AreMovedByPlaces (all : Lockfiles) (packages : List PackageData) (rs 
         → Contains (map (moved_places all) rs) (x.place, y.place)
     pub once : AllPairs (λ a b. a ≢ b) (map (moved_places all) rs)
 
+-- ---- notices
+
+-- what there is to report of a place, in some conflict or in none
+abbrev pub subject_of_place : Lockfiles → merging.Conflict → Option (MatterData Place)
+subject_of_place all c = option_map (conflict_of c.kind) (place_in all c)
+
+-- it has what the three lists have at its place
+abbrev pub HasSubjectAt : Lockfiles → Triple Place → merging.Conflict → Type 0
+HasSubjectAt all s c = (p : Place) × (place_in all c ≡ Some p) × HasPackagesAt all s p c
+
+-- These are exactly what there is to report of places where the sides are in no conflict, each once.
+pub record AreNoticesByPlaces (all : Lockfiles) (ns : List merging.Conflict) : Type 0 where
+  pub placed : Triple Place
+  pub lists : AreAllPlaced all placed
+  pub exact : (c : MatterData Place) → Contains (map (subject_of_place all) ns) (Some c)
+      ↔ ((¬ IsConflicting c) × IsMatter placed c)
+  pub once : AllPairs (λ a b. a ≢ b) (map (subject_of_place all) ns)
+  pub each : All (HasSubjectAt all placed) ns
+
 -- ---- what a merge returns
 
--- the merge of three lists of packages and its moved references, or the conflicts
+-- the merge of three lists of packages and what it reports, or the conflicts
 abbrev pub FindsByPlaces : Lockfiles → Outcome → Type 0
-FindsByPlaces all (Merged packages moved) = AreMovedByPlaces all packages.items moved.items
+FindsByPlaces all (Merged packages remarks) = AreMovedByPlaces all packages.items remarks.moved.items
+    × AreNoticesByPlaces all remarks.notices.items
 FindsByPlaces all (Conflicts conflicts) = AreConflictsByPlaces all conflicts.items
 
 -- these are the conflicts of the packages, or there are none, and the packages have a merge
@@ -80,8 +102,9 @@ AreConflictsIfAny all (c ∷ cs) = AreConflictsByPlaces all (c ∷ cs)
 
 -- the same of the merge of lockfiles, whose references have commits or are without
 abbrev pub MergesByPlaces : LockfileTriple → LockfileMerge → Type 0
-MergesByPlaces s (lockfiles.Merged lockfile text moved) = (packages : List PackageData)
-    × AreMovedByPlaces (packages_of s) packages moved.items
+MergesByPlaces s (lockfiles.Merged lockfile text remarks) = (packages : List PackageData)
+    × AreMovedByPlaces (packages_of s) packages remarks.moved.items
+    × AreNoticesByPlaces (packages_of s) remarks.notices.items
     × AllZip IsReferring packages lockfile.packages
 MergesByPlaces s (lockfiles.InConflict conflicts) =
     AreConflictsIfAny (packages_of s) conflicts.packages.items

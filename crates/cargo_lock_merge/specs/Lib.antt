@@ -3,6 +3,7 @@ pub mod Moved
 pub mod Words
 pub mod Lines
 pub mod Conflict
+pub mod Notice
 pub mod Outcome
 pub mod Formats
 pub mod Patches

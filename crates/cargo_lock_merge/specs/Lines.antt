@@ -1,10 +1,12 @@
 -- The lines of conflicts, of moved references and of refusals.
-use Rattle.std.specs.Prelude.{◌≡◌, ℕ, Bool, List, [], ◌∷◌, ◌++◌, codes, false, map, Option, Some, None, is_some, option_map, string_bytes}
+use Rattle.std.specs.Prelude.{◌≡◌, ◌&&◌, ℕ, Bool, List, [], ◌∷◌, ◌++◌, codes, false, map, Option, Some}
+use Rattle.std.specs.Prelude.{None, is_none, is_some, option_map, string_bytes}
 use Rattle.std.specs.Prelude.{if◌then◌else◌}
 use Rattle.std.specs.Borrow.{Bor}
 use Rattle.std.specs.Fmt.{digits}
 use Rattle.std.specs.List.{flat_map}
 use Rattle.std.specs.Str.Lines.{lines}
+use Rattle.semver.specs.Identifiers.{parts_text}
 use Rattle.cargo_lock_parts.specs.Ascii.{newline}
 use Rattle.cargo_lock_parts.specs.Identity.{PackageData, identity_of}
 use Rattle.cargo_lock_parts.specs.IdentityOrder.{is_same_identity}
@@ -29,6 +31,7 @@ use Rattle.cargo_lock_merge.specs.declared.lockfiles.MergeError.{MergeError}
 use Rattle.cargo_lock_merge.specs.declared.lockfiles.MergeError.TheVariants as error
 use Rattle.cargo_lock_merge.specs.declared.metadata.MetadataConflict.{MetadataConflict}
 use Rattle.cargo_lock_merge.specs.declared.moved.Moved.{Moved}
+use Rattle.cargo_lock_merge.specs.declared.notice.Remarks.{Remarks}
 use Rattle.cargo_lock_merge.specs.declared.words.Value.{Value}
 use Rattle.cargo_lock_merge.specs.declared.words.Value.TheVariants as value
 use Rattle.cargo_lock_merge.specs.declared.words.Values.{Values}
@@ -87,6 +90,23 @@ abbrev pub other_commit_line : Bor PackageData → Option SourceCommits → Line
 other_commit_line p None = record { subject = subject.Source p; values = absent }
 other_commit_line p (Some c) = record { subject = subject.Source p; values = commit_values None c }
 
+-- the checksum of a package, or none where there is no package
+abbrev pub side_checksum : Option (Bor PackageData) → Value
+side_checksum None = value.Absent
+side_checksum (Some p) = value.Checksum p
+
+-- of the checksums that the identity of the chosen package has
+abbrev pub two_checksums_line : merging.Conflict → Option (Bor PackageData) → Line
+two_checksums_line c None = record { subject = subject.Nothing; values = absent }
+two_checksums_line c (Some x) = record {
+  subject = subject.Checksum x;
+  values = record {
+    old = checksum_of_side (same_if c.base x.now);
+    ours = side_checksum (same_if c.ours x.now);
+    theirs = side_checksum (same_if c.theirs x.now);
+  };
+}
+
 -- what a conflict of this kind is about, and what the three have, where the sides have these packages
 abbrev pub line_by : Kind → Option (Bor PackageData) → Option (Bor PackageData) → merging.Conflict
     → Line
@@ -100,14 +120,7 @@ line_by kind.Package (Some o) (Some t) c = record {
 }
 line_by kind.Package (Some o) None c = other_commit_line o c.source
 line_by kind.Package None (Some t) c = other_commit_line t c.source
-line_by kind.Checksum (Some o) (Some t) c = record {
-  subject = subject.Checksum o;
-  values = record {
-    old = checksum_of_side (same_if c.base o.now);
-    ours = value.Checksum o;
-    theirs = value.Checksum t;
-  };
-}
+line_by kind.Checksum o t c = two_checksums_line c c.chosen
 line_by kind.Replacement (Some o) (Some t) c = record {
   subject = subject.Replacement o;
   values = record {
@@ -154,6 +167,51 @@ moved_line r = codes "moved: " ++ (moved_text r.found.merged r.with_sources
 -- the lines of moved references
 abbrev pub moved_lines : List Moved → List ℕ
 moved_lines = flat_map (λ r. moved_line r ++ newline ∷ [])
+
+-- ---- notices
+
+-- the name of a member of the workspace, and its two new versions
+abbrev pub versions_text : PackageData → PackageData → List ℕ
+versions_text o t = shown Plain o.name ++ (codes ": " ++ (shown Plain (parts_text o.version)
+    ++ (codes " (ours), " ++ (shown Plain (parts_text t.version) ++ codes " (theirs)"))))
+
+-- the package is there, has the identity of p, and no checksum
+abbrev pub lacks_checksum : PackageData → Option (Bor PackageData) → Bool
+lacks_checksum p None = false
+lacks_checksum p (Some q) = is_same_identity (identity_of q.now) (identity_of p)
+    && is_none q.now.checksum
+
+-- the sides that these say
+abbrev pub sides_named : Bool → Bool → List ℕ
+sides_named ours theirs = if ours
+    then (if theirs then codes "ours and theirs" else codes "ours")
+    else (if theirs then codes "theirs" else codes "none")
+
+-- the sides that lost the checksum of a package
+abbrev pub sides_of_loss : PackageData → Option (Bor PackageData) → Option (Bor PackageData)
+    → List ℕ
+sides_of_loss b o t = sides_named (lacks_checksum b o) (lacks_checksum b t)
+
+-- the line of what is told of a place, of this kind, where the three have these packages
+abbrev pub notice_by : Kind → Option (Bor PackageData) → Option (Bor PackageData)
+    → Option (Bor PackageData) → List ℕ
+notice_by kind.Version b (Some o) (Some t) = codes "version: " ++ (versions_text o.now t.now
+    ++ codes ": its manifest decides")
+notice_by kind.LostChecksum (Some b) o t = codes "alarm: " ++ (named_text b.now
+    ++ (codes ": checksum gone in " ++ sides_of_loss b.now o t))
+notice_by kind b o t = codes "none"
+
+-- the same of a notice
+abbrev pub notice_line : merging.Conflict → List ℕ
+notice_line c = notice_by c.kind c.base c.ours c.theirs
+
+-- the lines of notices
+abbrev pub notice_lines : List merging.Conflict → List ℕ
+notice_lines = flat_map (λ c. notice_line c ++ newline ∷ [])
+
+-- the lines of all that a merge reports
+abbrev pub remark_lines : Remarks → List ℕ
+remark_lines r = notice_lines r.notices.items ++ moved_lines r.moved.items
 
 -- ---- refusals
 
@@ -236,6 +294,11 @@ ConflictsAreLines = (conflicts : List Conflict)
 -- so is each moved reference
 abbrev pub MovedAreLines : Type 0
 MovedAreLines = (moved : List Moved) → lines (moved_lines moved) ≡ map moved_line moved
+
+-- so is each notice
+abbrev pub NoticesAreLines : Type 0
+NoticesAreLines = (notices : List merging.Conflict)
+    → lines (notice_lines notices) ≡ map notice_line notices
 
 -- so is each refusal, with the part of the lockfile
 abbrev pub RefusalsAreLines : Type 0

@@ -26,7 +26,7 @@ use Rattle.cargo_lock_merge.specs.declared.lockfiles.LockfileMerge.TheVariants.{
 use Rattle.cargo_lock_merge.specs.declared.lockfiles.MergeError.{MergeError}
 use Rattle.cargo_lock_merge.specs.declared.lockfiles.MergeError.TheVariants.{Memory, Refused, Root}
 use Rattle.cargo_lock_merge.specs.declared.lockfiles.Rest.{Rest}
-use Rattle.cargo_lock_merge.specs.declared.moved.Moved.{Moved}
+use Rattle.cargo_lock_merge.specs.declared.notice.Remarks.{Remarks}
 use Rattle.cargo_lock_merge.specs.declared.metadata.MetadataMerge.{MetadataMerge}
 use Rattle.cargo_lock_merge_core.specs.Commits.{Lockfiles}
 use Rattle.cargo_lock_merge_core.specs.Triples.{IsStop}
@@ -80,16 +80,17 @@ pub record HaveNoRoots (s : LockfileTriple) : Type 0 where
 -- ---- what a merge has
 
 -- The packages are the merge of the three lists, with their references with commits or without.
--- Beside them are the references that moved.
-abbrev pub AreMergedPackages : Lockfiles → List PackageData → List Moved → Type 0
-AreMergedPackages all packages moved = (merged : List PackageData) × IsMergeFound all merged moved
+-- Beside them is what the merge reports.
+abbrev pub AreMergedPackages : Lockfiles → List PackageData → Remarks → Type 0
+AreMergedPackages all packages remarks = (merged : List PackageData)
+    × IsMergeFound all merged remarks
     × AllZip IsReferring merged packages
 
 -- The lockfile is the merge of two sides over a base: it has the later format of both sides, the
 -- merged packages in the order in which Cargo writes them, no root apart from them, the metadata on
 -- which the three agree, and the unused patches that both sides have, or one side has and the base
--- has not; no dependency is twice in a package. Beside it are the references that moved.
-pub record IsMergedLockfile (s : LockfileTriple) (l : LockfileData) (rs : List Moved) : Type 0
+-- has not; no dependency is twice in a package. Beside it is what the merge reports.
+pub record IsMergedLockfile (s : LockfileTriple) (l : LockfileData) (rs : Remarks) : Type 0
   where
     pub roots : HaveNoRoots s
     pub version : IsLaterFormat s.ours.version s.theirs.version l.version
@@ -117,13 +118,13 @@ text_of_lockfile l = join_lines (lines_of l)
 
 -- the merge has this format, and its text does not read back as it
 abbrev pub IsMergeLostIn : LockfileTriple → ResolveVersion → Type 0
-IsMergeLostIn s format = (l : LockfileData) × (moved : List Moved) × IsMergedLockfile s l moved
+IsMergeLostIn s format = (l : LockfileData) × (remarks : Remarks) × IsMergedLockfile s l remarks
     × (l.version ≡ format) × ¬ TextIsOf l (text_of_lockfile l)
 
 -- these are the conflicts of the packages, or there are none, and the packages have a merge
 abbrev pub AreConflictingPackages : Lockfiles → List Conflict → Type 0
-AreConflictingPackages all [] = (packages : List PackageData) × (moved : List Moved)
-    × IsMergeFound all packages moved
+AreConflictingPackages all [] = (packages : List PackageData) × (remarks : Remarks)
+    × IsMergeFound all packages remarks
 AreConflictingPackages all (c ∷ cs) = AreInConflictAbout all (c ∷ cs)
 
 -- the format does not keep the merge, if this is one
@@ -147,7 +148,7 @@ pub record AreLockfileConflicts (s : LockfileTriple) (c : LockfileConflicts) : T
 -- the lockfile is the merge, and this is its text, which reads back as it; or the sides are in
 -- conflict
 abbrev pub MergesTo : LockfileTriple → LockfileMerge → Type 0
-MergesTo s (Merged lockfile text moved) = IsMergedLockfile s lockfile moved.items
+MergesTo s (Merged lockfile text remarks) = IsMergedLockfile s lockfile remarks
     × (string_bytes text ≡ text_of_lockfile lockfile) × TextIsOf lockfile (string_bytes text)
 MergesTo s (InConflict conflicts) = AreLockfileConflicts s conflicts
 

@@ -12,11 +12,12 @@ use Rattle.cargo_lock_merge_core.specs.Places.{IsMergeOf, Place}
 use Rattle.cargo_lock_merge_core.specs.Plans.{IsClosed, IsNumbered}
 use Rattle.cargo_lock_merge_core.specs.Triples.{AreSidesOf, triple_in}
 use Rattle.cargo_lock_merge.specs.declared.conflict.Conflict.{Conflict}
-use Rattle.cargo_lock_merge.specs.declared.moved.Moved.{Moved}
+use Rattle.cargo_lock_merge.specs.declared.notice.Remarks.{Remarks}
 use Rattle.cargo_lock_merge.specs.declared.outcome.Outcome.{Outcome}
 use Rattle.cargo_lock_merge.specs.declared.outcome.Outcome.TheVariants.{Conflicts, Merged}
 use Rattle.cargo_lock_merge.specs.Conflict.{AreConflictsOf}
 use Rattle.cargo_lock_merge.specs.Moved.{AreMovedReferences}
+use Rattle.cargo_lock_merge.specs.Notice.{AreNotices}
 use Rattle.cargo_lock_merge.specs.Once.{DependsApart, HasEachOnce}
 use Rattle.cargo_lock_merge.specs.Order.{AreInCargoOrder}
 
@@ -34,9 +35,9 @@ RefersInFull packages = (p : PackageData) (i : Identity) → Contains packages p
     → Contains p.dependencies i ⊎ (p.replace ≡ Some i) → IsIdentityIn packages i
 
 -- The packages are the merge of the three lists, each of which has each git source at one commit,
--- in the order in which Cargo writes them; no dependency is twice in a package. Beside them are the
--- references that moved.
-pub record IsMergeFound (all : Lockfiles) (ps : List PackageData) (rs : List Moved) : Type 0 where
+-- in the order in which Cargo writes them; no dependency is twice in a package. Beside them is what
+-- the merge reports: the references that moved, and what is no conflict.
+pub record IsMergeFound (all : Lockfiles) (ps : List PackageData) (rs : Remarks) : Type 0 where
   pub commits : HaveOneCommitEach all
   pub merge : IsMergeOf all ps
   pub order : AreInCargoOrder ps
@@ -47,7 +48,8 @@ pub record IsMergeFound (all : Lockfiles) (ps : List PackageData) (rs : List Mov
   pub numbered : List (PlacedData ℕ)
   pub merged : IsMerge triple numbered
   pub assembled : AreAssembled numbered ps
-  pub moved : AreMovedReferences triple.ours triple.theirs numbered ps rs
+  pub moved : AreMovedReferences triple.ours triple.theirs numbered ps rs.moved.items
+  pub notices : AreNotices triple rs.notices.items
   pub once : All HasEachOnce ps
 
 -- There is no merge of the three lists, by the numbers of their places, since the sides are in
@@ -62,23 +64,23 @@ pub record AreInConflictAbout (all : Lockfiles) (cs : List Conflict) : Type 0 wh
 
 -- the packages are the merge of the three lists, or there is none
 abbrev pub FindsMerge : Lockfiles → Outcome → Type 0
-FindsMerge all (Merged packages moved) = IsMergeFound all packages.items moved.items
+FindsMerge all (Merged packages remarks) = IsMergeFound all packages.items remarks
 FindsMerge all (Conflicts conflicts) = AreInConflictAbout all conflicts.items
 
 -- ---- as the program has them
 
--- the packages are those of a merge by numbers, with the references that moved
-abbrev pub IsMergedOf : List (PlacedData ℕ) → List (PlacedData ℕ) → List (PlacedData ℕ) → Outcome
-    → Type 0
-IsMergedOf o t m (Merged packages moved) = AreAssembled m packages.items
-    × AreInCargoOrder packages.items × AreMovedReferences o t m packages.items moved.items
-    × All (DependsApart m) packages.items
-IsMergedOf o t m (Conflicts conflicts) = ⊥
+-- the packages are those of a merge m by numbers, with what it reports
+abbrev pub IsMergedOf : Triple ℕ → List (PlacedData ℕ) → Outcome → Type 0
+IsMergedOf s m (Merged packages remarks) = AreAssembled m packages.items
+    × AreInCargoOrder packages.items
+    × AreMovedReferences s.ours s.theirs m packages.items remarks.moved.items
+    × AreNotices s remarks.notices.items × All (DependsApart m) packages.items
+IsMergedOf s m (Conflicts conflicts) = ⊥
 
 -- the outcome is a merge by numbers, or there is none
 abbrev pub IsOutcomeOf : Triple ℕ → Outcome → Type 0
-IsOutcomeOf s (Merged packages moved) = (m : List (PlacedData ℕ)) × IsMerge s m
-    × IsMergedOf s.ours s.theirs m (Merged packages moved)
+IsOutcomeOf s (Merged packages remarks) = (m : List (PlacedData ℕ)) × IsMerge s m
+    × IsMergedOf s m (Merged packages remarks)
 IsOutcomeOf s (Conflicts conflicts) = ((m : List (PlacedData ℕ)) → ¬ IsMerge s m)
     × AreConflictsOf s conflicts.items × (conflicts.items ≢ [])
 

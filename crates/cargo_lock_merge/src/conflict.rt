@@ -4,11 +4,11 @@ ghost use Rattle.std.specs.Prelude.{◌≡◌, ◌++◌, ℕ, IfOk, IsOkUnless, 
 ghost use Rattle.cargo_lock_parts.specs.declared.error.Error.TheVariants.{Memory};
 ghost use Rattle.cargo_lock_merge_core.specs.Merge.{Triple, lockfiles_of};
 ghost use Rattle.cargo_lock_merge_core.specs.Merged.{HasPlan};
-ghost use Rattle.cargo_lock_merge_core.specs.Plans.{numbered_triple};
 ghost use Rattle.cargo_lock_merge.specs.Conflict.{AreConflictsAtPlaces, AreConflictsOf};
 ghost use Rattle.cargo_lock_merge.specs.declared.conflict.Conflict.TheVariants.{AtPlace, OfSource};
-ghost use Rattle.cargo_lock_merge.specs.Lines.{absent, checksum_of_side, commit_value};
-ghost use Rattle.cargo_lock_merge.specs.Lines.{commit_values, line_of, other_commit_line};
+ghost use Rattle.cargo_lock_merge.specs.Lines.{absent, two_checksums_line, checksum_of_side};
+ghost use Rattle.cargo_lock_merge.specs.Lines.{side_checksum, commit_value, commit_values, line_of};
+ghost use Rattle.cargo_lock_merge.specs.Lines.{other_commit_line};
 ghost use Rattle.cargo_lock_merge.specs.Lines.{replacement_value, same_if};
 ghost use Rattle.cargo_lock_merge.specs.declared.words.Value.TheVariants.{Version};
 
@@ -17,7 +17,7 @@ use cargo_lock_display::NameVersion;
 use cargo_lock_merge_core::commits::{Commits, SourceCommits};
 use cargo_lock_merge_core::conflicts::{Conflict as PlaceConflict, Kind, conflicts};
 use cargo_lock_merge_core::disputes::disputes;
-use cargo_lock_merge_core::placed::{Placed, are_same, cmp_identities};
+use cargo_lock_merge_core::placed::{are_same, cmp_identities};
 use cargo_lock_merge_core::plan::Plan;
 use cargo_lock_parts::error::Result;
 use cargo_lock_parts::package::{Package, SourceId};
@@ -40,19 +40,15 @@ pub enum Conflict<'a> {
 /// error is `Memory`.
 pub(crate) fn conflicts_of<'a, 'd>(
     alloc: Global,
-    base: &'d [Placed<'a, 'd>],
-    ours: &'d [Placed<'a, 'd>],
-    theirs: &'d [Placed<'a, 'd>],
+    commits: &Commits<'a, 'd>,
     plan: &Plan<'a, 'd>,
 ) -> Result<Vec<Conflict<'a>>>
-    requires { HasPlan (numbered_triple base.now ours.now theirs.now) plan.now }
-    ensures ok { IfOk result
-        (λ all. AreConflictsOf (numbered_triple base.now ours.now theirs.now) all.items) }
+    ensures ok { IfOk result (λ all. (s : Triple ℕ) → HasPlan s plan.now
+        → commits.now ≡ lockfiles_of s → AreConflictsOf s all.items) }
     ensures err { IsOkUnless result Memory }
 {
-    let commits = Commits::of(alloc, base, ours, theirs)?;
-    let at_places = conflicts_at_places(alloc, &commits, plan)?;
-    let mut sources = disputes(alloc, &commits, plan)?;
+    let at_places = conflicts_at_places(alloc, commits, plan)?;
+    let mut sources = disputes(alloc, commits, plan)?;
     sources.sort_by(|one, other| one.source.cmp(other.source))?;
     Ok(joined(alloc, &at_places, &sources)?)
 }
@@ -75,7 +71,7 @@ fn conflicts_at_places<'a, 'd>(
 }
 
 // The order of the packages of two conflicts: ours, or theirs where we have none.
-fn cmp_conflicts(one: &PlaceConflict, other: &PlaceConflict) -> Ordering {
+pub(crate) fn cmp_conflicts(one: &PlaceConflict, other: &PlaceConflict) -> Ordering {
     match (one.ours.or(one.theirs), other.ours.or(other.theirs)) {
         (Some(one), Some(other)) => cmp_identities(one, other),
         _ => Ordering::Equal,
@@ -212,14 +208,7 @@ fn line_of<'a>(conflict: PlaceConflict<'a>) -> Line<'a>
         },
         (Kind::Package, Some(only), None) => source_line(only, conflict.source),
         (Kind::Package, None, Some(only)) => source_line(only, conflict.source),
-        (Kind::Checksum, Some(ours), Some(theirs)) => Line {
-            subject: Subject::Checksum(ours),
-            values: Values {
-                old: checksum_if(same_if(conflict.base, ours)),
-                ours: Value::Checksum(ours),
-                theirs: Value::Checksum(theirs),
-            },
-        },
+        (Kind::Checksum, _, _) => two_checksums_line(conflict, conflict.chosen),
         (Kind::Replacement, Some(ours), Some(theirs)) => Line {
             subject: Subject::Replacement(ours),
             values: Values {
@@ -232,6 +221,35 @@ fn line_of<'a>(conflict: PlaceConflict<'a>) -> Line<'a>
             subject: Subject::Nothing,
             values: absent(),
         },
+    }
+}
+
+// The line of the checksums that the identity of the chosen package has.
+fn two_checksums_line<'a>(conflict: PlaceConflict<'a>, chosen: Option<&'a Package>) -> Line<'a>
+    ensures { result ≡ two_checksums_line conflict.entry chosen.entry }
+{
+    match chosen {
+        Some(chosen) => Line {
+            subject: Subject::Checksum(chosen),
+            values: Values {
+                old: checksum_if(same_if(conflict.base, chosen)),
+                ours: side_checksum(same_if(conflict.ours, chosen)),
+                theirs: side_checksum(same_if(conflict.theirs, chosen)),
+            },
+        },
+        None => Line {
+            subject: Subject::Nothing,
+            values: absent(),
+        },
+    }
+}
+
+fn side_checksum<'a>(package: Option<&'a Package>) -> Value<'a>
+    ensures { result ≡ side_checksum «package».entry }
+{
+    match package {
+        Some(package) => Value::Checksum(package),
+        None => Value::Absent,
     }
 }
 

@@ -1,4 +1,4 @@
-//! The merge of three lockfiles by packages, its conflicts and what it moved, each as a line.
+//! The merge of three lockfiles by packages, its conflicts and what it reports, each as a line.
 #![tactic(auto)]
 
 mod assemble;
@@ -9,6 +9,7 @@ mod lines;
 pub mod lockfiles;
 pub mod metadata;
 pub mod moved;
+pub mod notice;
 mod order;
 pub mod outcome;
 mod patches;

@@ -18,7 +18,7 @@ use crate::format::later_format;
 use crate::metadata::{
     MetadataConflict, MetadataMerge, MetadataSides, merge_metadata, own_metadata,
 };
-use crate::moved::Moved;
+use crate::notice::Remarks;
 use crate::outcome::{Outcome, merge};
 use crate::patches::merge_patches;
 use crate::referring::refer_as_cargo;
@@ -58,8 +58,8 @@ impl<'a> From<Error> for MergeError<'a> {
 /// What a merge of lockfiles is.
 #[derive(Drop)]
 pub enum LockfileMerge<'a> {
-    /// The merged lockfile, its text, and the references that the merge moved.
-    Merged(Lockfile, String, Vec<Moved<'a>>),
+    /// The merged lockfile, its text, and what the merge reports.
+    Merged(Lockfile, String, Remarks<'a>),
 
     /// The sides are in conflict.
     InConflict(LockfileConflicts<'a>),
@@ -86,8 +86,7 @@ struct Rest {
     patch: Patch,
 }
 
-/// The merge of two lockfiles over their base, its text and the references that the merge moved, or
-/// the conflicts.
+/// The merge of two lockfiles over their base, its text and what the merge reports, or the conflicts.
 ///
 /// The merge has the later format of both sides. Its packages are those of `merge`, with their
 /// references as Cargo writes them: one in full has no commit. An unused patch is there if both
@@ -208,7 +207,7 @@ fn joined<'a>(alloc: Global, outcome: Outcome<'a>, rest: Rest) -> error::Result<
     ensures err { IsOkUnless result Memory }
 {
     match outcome {
-        Outcome::Merged(packages, moved) => joined_packages(alloc, packages, moved, rest),
+        Outcome::Merged(packages, remarks) => joined_packages(alloc, packages, remarks, rest),
         Outcome::Conflicts(packages) => Ok(LockfileMerge::InConflict(LockfileConflicts {
             packages,
             metadata: rest.metadata.conflicts,
@@ -221,17 +220,17 @@ fn joined<'a>(alloc: Global, outcome: Outcome<'a>, rest: Rest) -> error::Result<
 fn joined_packages<'a>(
     alloc: Global,
     packages: Vec<Package>,
-    moved: Vec<Moved<'a>>,
+    remarks: Remarks<'a>,
     rest: Rest,
 ) -> error::Result<LockfileMerge<'a>>
     ensures ok { IfOk result (λ merge. (s : LockfileTriple) → HaveNoRoots s
-        → IsMergeFound (packages_of s) packages.items moved.entry.items → IsRestOf s rest
+        → IsMergeFound (packages_of s) packages.items remarks.entry → IsRestOf s rest
         → MergesTo s merge) }
     ensures err { IsOkUnless result Memory }
 {
     if rest.metadata.conflicts.is_empty() {
         let packages = refer_as_cargo(alloc, rest.version, &packages)?;
-        with_text(alloc, lockfile_of(packages, rest), moved)
+        with_text(alloc, lockfile_of(packages, rest), remarks)
     } else {
         Ok(LockfileMerge::InConflict(LockfileConflicts {
             packages: Vec::new(alloc),
@@ -263,15 +262,15 @@ fn lockfile_of(packages: Vec<Package>, rest: Rest) -> Lockfile
 fn with_text<'a>(
     alloc: Global,
     lockfile: Lockfile,
-    moved: Vec<Moved<'a>>,
+    remarks: Remarks<'a>,
 ) -> error::Result<LockfileMerge<'a>>
     ensures ok { IfOk result (λ merge. (s : LockfileTriple)
-        → IsMergedLockfile s lockfile moved.entry.items → MergesTo s merge) }
+        → IsMergedLockfile s lockfile remarks.entry → MergesTo s merge) }
     ensures err { IsOkUnless result Memory }
 {
     let text = lockfile.to_string(alloc)?;
     if reads_back(alloc, &lockfile, text.as_str())? {
-        Ok(LockfileMerge::Merged(lockfile, text, moved))
+        Ok(LockfileMerge::Merged(lockfile, text, remarks))
     } else {
         Ok(LockfileMerge::InConflict(LockfileConflicts {
             packages: Vec::new(alloc),

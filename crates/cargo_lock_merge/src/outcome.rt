@@ -1,10 +1,11 @@
 //! The merge of three lists of packages.
 
-ghost use Rattle.std.specs.Prelude.{IfErr, IfOk, IsOkUnless, map};
+ghost use Rattle.std.specs.Prelude.{◌≡◌, ℕ, IfErr, IfOk, IsOkUnless, map};
 ghost use Rattle.cargo_lock_parts.specs.declared.error.Error.TheVariants.{Memory};
 ghost use Rattle.cargo_lock_merge_core.specs.Commits.{Lockfiles};
 ghost use Rattle.cargo_lock_merge_core.specs.Kept.{AreInPlace};
-ghost use Rattle.cargo_lock_merge_core.specs.Merged.{merged_data};
+ghost use Rattle.cargo_lock_merge_core.specs.Merge.{Triple, lockfiles_of};
+ghost use Rattle.cargo_lock_merge_core.specs.Merged.{HasPlan, merged_data};
 ghost use Rattle.cargo_lock_merge_core.specs.Moved.{AreListedPackages};
 ghost use Rattle.cargo_lock_merge_core.specs.Numbered.{all_data};
 ghost use Rattle.cargo_lock_merge_core.specs.Plans.{numbered_triple};
@@ -15,7 +16,9 @@ ghost use Rattle.cargo_lock_merge.specs.Outcome.{IsTriple, three};
 
 use crate::assemble::assemble;
 use crate::conflict::{Conflict, conflicts_of};
-use crate::moved::{Moved, moved_of};
+use crate::moved::moved_of;
+use crate::notice::{Remarks, notices_of};
+use cargo_lock_merge_core::commits::Commits;
 use cargo_lock_merge_core::merged::{Merged, merged_packages};
 use cargo_lock_merge_core::numbered::placed;
 use cargo_lock_merge_core::placed::Placed;
@@ -28,9 +31,8 @@ use std::alloc::Global;
 /// What a merge of two sides over a base is.
 #[derive(Drop)]
 pub enum Outcome<'a> {
-    /// The merged packages, in the order in which Cargo writes them, and the references that the
-    /// merge moved, in the order of these packages.
-    Merged(Vec<Package>, Vec<Moved<'a>>),
+    /// The merged packages, in the order in which Cargo writes them, and what the merge reports.
+    Merged(Vec<Package>, Remarks<'a>),
 
     /// What the sides are in conflict about, at least one thing: what is at places in the order of
     /// the packages there, and then the commits of git sources.
@@ -86,27 +88,32 @@ fn merge_placed<'a, 'd>(
     ensures err { IsOkUnless result Memory }
 {
     let plan = Plan::of(alloc, base, ours, theirs)?;
+    let commits = Commits::of(alloc, base, ours, theirs)?;
     match merged_packages(alloc, &plan)? {
-        Some(merged) => merged_of(alloc, &merged, ours, theirs),
-        None => Ok(Outcome::Conflicts(conflicts_of(alloc, base, ours, theirs, &plan)?)),
+        Some(merged) => merged_of(alloc, &merged, ours, theirs, &commits, &plan),
+        None => Ok(Outcome::Conflicts(conflicts_of(alloc, &commits, &plan)?)),
     }
 }
 
 // The outcome of merged packages.
-fn merged_of<'a>(
+fn merged_of<'a, 'd>(
     alloc: Global,
     merged: &[Merged<'a>],
-    ours: &[Placed<'a, '_>],
-    theirs: &[Placed<'a, '_>],
+    ours: &'d [Placed<'a, 'd>],
+    theirs: &'d [Placed<'a, 'd>],
+    commits: &Commits<'a, 'd>,
+    plan: &Plan<'a, 'd>,
 ) -> error::Result<Outcome<'a>>
     requires merged { AreInPlace merged.now }
     requires ours { AreListedPackages (all_data ours.now) }
     requires theirs { AreListedPackages (all_data theirs.now) }
-    ensures ok { IfOk result (IsMergedOf (all_data ours.now) (all_data theirs.now) (map merged_data
-        merged.now)) }
+    ensures ok { IfOk result (λ outcome. (s : Triple ℕ) → HasPlan s plan.now
+        → commits.now ≡ lockfiles_of s → s.ours ≡ all_data ours.now → s.theirs ≡ all_data theirs.now
+        → IsMergedOf s (map merged_data merged.now) outcome) }
     ensures err { IsOkUnless result Memory }
 {
     let packages = assemble(alloc, merged)?;
     let moved = moved_of(alloc, merged, ours, theirs, &packages)?;
-    Ok(Outcome::Merged(packages, moved))
+    let notices = notices_of(alloc, commits, plan)?;
+    Ok(Outcome::Merged(packages, Remarks { notices, moved }))
 }

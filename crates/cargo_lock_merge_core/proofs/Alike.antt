@@ -10,6 +10,7 @@ use Rattle.cargo_lock_merge_core.specs.Places.{Place}
 use Rattle.cargo_lock_merge_core.specs.Rule3.{IsMergedValue}
 use Rattle.cargo_lock_merge_core.proofs.Agreeing.{agreed-once}
 use Rattle.cargo_lock_merge_core.proofs.Once.{checksum-alike, chosen-once, depends-alike, replacement-alike}
+use Rattle.cargo_lock_merge_core.proofs.OnlyValue.{only-once}
 use Rattle.cargo_lock_merge_core.proofs.Staying.{from-at}
 
 -- one value is merged
@@ -26,7 +27,7 @@ from-alike s x y z c d m n here f g =
     record {
       place = here;
       identity = ap identity_key f.identity ∙ e ∙ sym (ap identity_key g.identity);
-      checksum = value-once _ _ _ m.content.checksum n.content.checksum (checksum-alike c d e x y z m.content.checksum f.checksum) g.checksum;
+      checksum = only-once _ _ _ m.content.checksum n.content.checksum (checksum-alike c d e x y z m.content.checksum f.checksum) g.checksum;
       dependencies = λ k. (
         λ h. (g.dependencies k).1 (depends-alike c d e x y z k ((f.dependencies k).0 h)),
         λ h. (f.dependencies k).1 (depends-alike d c (sym e) x y z k ((g.dependencies k).0 h)),

@@ -8,17 +8,17 @@ use Rattle.cargo_lock_parts.specs.IdentityLaws.{by_keys-Decides}
 use Rattle.cargo_lock_parts.specs.PartialIdentity.{partial_key_cmp, partial_key-anti, partial_key-total}
 use Rattle.cargo_lock_graph.specs.Targets.{IsLastBelow}
 use Rattle.cargo_lock_merge_core.specs.Lists.{IsNumber, place_at}
-use Rattle.cargo_lock_merge_core.specs.Merge.{ConflictData, HaveAt, IsConflict, IsMerge, OfChecksum, OfPackage, OfReplacement, OfSource, Triple, lockfiles_of}
+use Rattle.cargo_lock_merge_core.specs.Merge.{MatterData, HaveAt, IsMatter, IsMerge, OfChecksum, OfPackage, OfReplacement, OfSource, OfVersion, OfLostChecksum, Triple, lockfiles_of}
 use Rattle.cargo_lock_merge_core.specs.Placed.{HasAt, IsAt, PlacedData}
 use Rattle.cargo_lock_merge_core.specs.declared.conflicts.Kind.{Kind}
-use Rattle.cargo_lock_merge_core.specs.declared.conflicts.Kind.TheVariants.{Checksum, Package, Replacement}
+use Rattle.cargo_lock_merge_core.specs.declared.conflicts.Kind.TheVariants.{Checksum, LostChecksum, Package, Replacement, Version}
 use Rattle.cargo_lock_merge_core.specs.Choices.{IsChosen, IsOfSide}
 use Rattle.cargo_lock_merge_core.specs.Commits.{Lockfiles}
 use Rattle.cargo_lock_merge_core.specs.Conflicts.{IsChosenIf, conflict_of}
 use Rattle.cargo_lock_graph.proofs.EdgesOnce.{last-one}
 use Rattle.cargo_lock_parts.specs.Identity.{PackageData}
 use Rattle.cargo_lock_merge_core.specs.Places.{Place}
-use Rattle.cargo_lock_merge_core.specs.Renaming.{Has, IsOneToOne, IsUsed, rename, rename_all, rename_conflict, rename_triple}
+use Rattle.cargo_lock_merge_core.specs.Renaming.{Has, IsOneToOne, IsUsed, rename, rename_all, rename_matter, rename_triple}
 use Rattle.lists.proofs.Members.{first-in, later-in, map-in}
 use Rattle.cargo_lock_merge_core.proofs.Renamed.{conflict-renamed, have-to, lockfiles-same, merge-renamed, side-used}
 use Rattle.cargo_lock_merge_core.proofs.Renaming.{chosen-of, chosen-to}
@@ -158,45 +158,53 @@ module _ (places : List Place) where
         none (rename_all back m) (subst (λ (z : Triple ℕ). IsMerge z (rename_all back m)) triple-back (merge-renamed back (rename_triple to s) back-one-to-one m h))
 
     -- a conflict by places is one by numbers
-    pub conflict-back : (c : ConflictData Place) → IsConflict (rename_triple to s) c → IsConflict s (rename_conflict back c)
-    conflict-back c h = subst (λ (z : Triple ℕ). IsConflict z (rename_conflict back c)) triple-back (conflict-renamed back (rename_triple to s) back-one-to-one c h)
+    pub conflict-back : (c : MatterData Place) → IsMatter (rename_triple to s) c → IsMatter s (rename_matter back c)
+    conflict-back c h = subst (λ (z : Triple ℕ). IsMatter z (rename_matter back c)) triple-back (conflict-renamed back (rename_triple to s) back-one-to-one c h)
 
     -- the place of a conflict is that of its number
-    conflict-place : (c : ConflictData Place) → IsConflict (rename_triple to s) c → rename_conflict to (rename_conflict back c) ≡ c
+    conflict-place : (c : MatterData Place) → IsMatter (rename_triple to s) c → rename_matter to (rename_matter back c) ≡ c
     conflict-place (OfPackage p) (r, (x, y, z, at, (clash, none))) =
         ap OfPackage (place-back p (side-used back (rename_triple to s) back-one-to-one p y z clash.one at.ours at.theirs clash.of_side))
     conflict-place (OfChecksum p) (r, (x, y, z, c, at, chosen, dispute)) =
         ap OfChecksum (place-back p (side-used back (rename_triple to s) back-one-to-one p y z c at.ours at.theirs chosen.0))
     conflict-place (OfReplacement p) (r, (x, y, z, c, at, chosen, dispute)) =
         ap OfReplacement (place-back p (side-used back (rename_triple to s) back-one-to-one p y z c at.ours at.theirs chosen.0))
+    conflict-place (OfVersion p) (r, (x, y, z, c, at, chosen, changed)) =
+        ap OfVersion (place-back p (side-used back (rename_triple to s) back-one-to-one p y z c at.ours at.theirs chosen.0))
+    conflict-place (OfLostChecksum p) (r, (x, y, z, c, at, chosen, lost)) =
+        ap OfLostChecksum (place-back p (side-used back (rename_triple to s) back-one-to-one p y z c at.ours at.theirs chosen.0))
     conflict-place (OfSource g) h = refl
 
     -- the conflicts by places are those by numbers
-    pub conflicts-of-places : (c : ConflictData Place) → IsConflict (rename_triple to s) c ↔ ((d : ConflictData ℕ) × IsConflict s d × (rename_conflict to d ≡ c))
+    pub conflicts-of-places : (c : MatterData Place) → IsMatter (rename_triple to s) c ↔ ((d : MatterData ℕ) × IsMatter s d × (rename_matter to d ≡ c))
     conflicts-of-places c = (
-      λ h. (rename_conflict back c, conflict-back c h, conflict-place c h),
-      λ (d, h, is). subst (IsConflict (rename_triple to s)) is (conflict-renamed to s (λ p q up uq same. numbers-one places p q (are p up) (are q uq) same) d h),
+      λ h. (rename_matter back c, conflict-back c h, conflict-place c h),
+      λ (d, h, is). subst (IsMatter (rename_triple to s)) is (conflict-renamed to s (λ p q up uq same. numbers-one places p q (are p up) (are q uq) same) d h),
     )
 
     -- a side has a package at the place of a conflict
     side-in : (n : ℕ) (y z : Option (PlacedData ℕ)) (c : PlacedData ℕ) → IsAt s.ours n y → IsAt s.theirs n z → IsOfSide y z c → IsNumber places n
     side-in n y z c at at' side = are n (side-used (λ (k : ℕ). k) s (λ p q up uq same. same) n y z c at at' side)
 
-    pub conflict-number : (kind : Kind) (n : ℕ) → IsConflict s (conflict_of kind n) → IsNumber places n × ((c : PlacedData ℕ) × (HasAt s.ours n c ⊎ HasAt s.theirs n c))
+    pub conflict-number : (kind : Kind) (n : ℕ) → IsMatter s (conflict_of kind n) → IsNumber places n × ((c : PlacedData ℕ) × (HasAt s.ours n c ⊎ HasAt s.theirs n c))
     conflict-number Package n (r, (x, y, z, at, (clash, none))) =
         (side-in n y z clash.one at.ours at.theirs clash.of_side, (clash.one, side-at s n x y z clash.one at clash.of_side))
     conflict-number Checksum n (r, (x, y, z, c, at, chosen, dispute)) = (side-in n y z c at.ours at.theirs chosen.0, (c, side-at s n x y z c at chosen.0))
     conflict-number Replacement n (r, (x, y, z, c, at, chosen, dispute)) = (side-in n y z c at.ours at.theirs chosen.0, (c, side-at s n x y z c at chosen.0))
+    conflict-number Version n (r, (x, y, z, c, at, chosen, changed)) = (side-in n y z c at.ours at.theirs chosen.0, (c, side-at s n x y z c at chosen.0))
+    conflict-number LostChecksum n (r, (x, y, z, c, at, chosen, lost)) = (side-in n y z c at.ours at.theirs chosen.0, (c, side-at s n x y z c at chosen.0))
 
-    conflict-again : (d : ConflictData ℕ) → IsConflict s d → rename_conflict back (rename_conflict to d) ≡ d
+    conflict-again : (d : MatterData ℕ) → IsMatter s d → rename_matter back (rename_matter to d) ≡ d
     conflict-again (OfPackage n) h = ap OfPackage (number-back places n (conflict-number Package n h).0)
     conflict-again (OfChecksum n) h = ap OfChecksum (number-back places n (conflict-number Checksum n h).0)
     conflict-again (OfReplacement n) h = ap OfReplacement (number-back places n (conflict-number Replacement n h).0)
+    conflict-again (OfVersion n) h = ap OfVersion (number-back places n (conflict-number Version n h).0)
+    conflict-again (OfLostChecksum n) h = ap OfLostChecksum (number-back places n (conflict-number LostChecksum n h).0)
     conflict-again (OfSource g) h = refl
 
     -- no two conflicts have one place
-    pub conflict-one : (c d : ConflictData ℕ) → IsConflict s c → IsConflict s d → rename_conflict to c ≡ rename_conflict to d → c ≡ d
-    conflict-one c d hc hd same = sym (conflict-again c hc) ∙ ap (rename_conflict back) same ∙ conflict-again d hd
+    pub conflict-one : (c d : MatterData ℕ) → IsMatter s c → IsMatter s d → rename_matter to c ≡ rename_matter to d → c ≡ d
+    conflict-one c d hc hd same = sym (conflict-again c hc) ∙ ap (rename_matter back) same ∙ conflict-again d hd
 
     -- what is chosen at a place is what is chosen at its number
     pub chosen-at : (n : ℕ) (x y z : Option (PlacedData ℕ)) (c : Option PackageData) → IsUsed s n → HaveAt s n x y z → IsChosenIf (lockfiles_of s) x y z c

@@ -16,7 +16,7 @@ use Rattle.cargo_lock_merge_core.specs.Commits.{IsCommitIn, Lockfiles}
 use Rattle.cargo_lock_merge_core.specs.Conflicts.{IsConflictAt, IsSourceOfEither, conflict_of, content_if, now_if}
 use Rattle.cargo_lock_merge_core.specs.Disputes.{HasCommits, IsSourceOf}
 use Rattle.cargo_lock_merge_core.specs.Lists.{AreNumbered, IsNumber, place_at}
-use Rattle.cargo_lock_merge_core.specs.Merge.{HasReference, IsConflict, IsMerge, IsMovedReference, Triple, lockfiles_of}
+use Rattle.cargo_lock_merge_core.specs.Merge.{HasReference, IsMatter, IsMerge, IsMovedReference, Triple, lockfiles_of}
 use Rattle.cargo_lock_merge_core.specs.Moved.{IsMoved, IsReferenceAt, IsReferenceOf, sides}
 use Rattle.cargo_lock_merge_core.specs.Placed.{HasAt, IsAt, PlacedData, contents_of, key}
 use Rattle.cargo_lock_merge_core.specs.Places.{Place}
@@ -166,7 +166,7 @@ module _ (all : Lockfiles) (places : List Place) (s : Triple ℕ) (are : AreSide
   place-of-sides n None None w number at at' (inr h) = absurd (at' w h)
 
   -- a conflict about what is at a place has what the lists have there
-  pub conflict-placed : (kind : Kind) (c : Conflict) → IsConflictAt s kind c → IsConflict s (conflict_of kind c.place)
+  pub conflict-placed : (kind : Kind) (c : Conflict) → IsConflictAt s kind c → IsMatter s (conflict_of kind c.place)
       → (place_in all c ≡ Some (place_at places c.place)) × HasPackagesAt all (rename_triple (place_at places) s) (place_at places c.place) c
   conflict-placed kind c (x, y, z, h) conflict =
       let n = c.place in

@@ -108,15 +108,13 @@ module _ (all : Lockfiles) (b : Option (PlacedData ℕ)) (o t : PlacedData ℕ) 
       → (x : PlacedData ℕ) → ¬ IsChosen all b (Some o) (Some t) x
   none-version g c v x (at, inl k) = g k.0
   none-version g c v x (at, inr (k, inl a)) = agreed-apart (key_if b) (Some (key o)) (Some (key t)) (Some (key x)) a c
-  none-version g c v x (at, inr (k, inr (d, inl h))) = v (record { ours = d.ours; theirs = d.theirs; above = d.above }, inl h.0)
-  none-version g c v x (at, inr (k, inr (d, inr h))) = v (record { ours = d.ours; theirs = d.theirs; above = d.above }, inr h.0)
+  none-version g c v x (at, inr (k, inr (d, inl h))) = v (d.decisive, inl h.0)
+  none-version g c v x (at, inr (k, inr (d, inr h))) = v (d.decisive, inr h.0)
 
   pub by-version : (r : Option Side) → ¬ AreOfGit (Some o) (Some t) → IsInConflict (key_if b) (Some (key o)) (Some (key t)) → IsVersionSide b o t r
       → IsChoice all b (Some o) (Some t) r
-  by-version (Some Ours) g c v =
-      (o, refl, (inl refl, inr (g, inr (record { changed = c; ours = v.0.ours; theirs = v.0.theirs; above = v.0.above }, inl (v.1, refl)))))
-  by-version (Some Theirs) g c v =
-      (t, refl, (inr refl, inr (g, inr (record { changed = c; ours = v.0.ours; theirs = v.0.theirs; above = v.0.above }, inr (v.1, refl)))))
+  by-version (Some Ours) g c v = (o, refl, (inl refl, inr (g, inr (record { changed = c; decisive = v.0 }, inl (v.1, refl)))))
+  by-version (Some Theirs) g c v = (t, refl, (inr refl, inr (g, inr (record { changed = c; decisive = v.0 }, inr (v.1, refl)))))
   by-version None g c v = λ x k. none-version g c v x k
 
 -- ---- a test of the only package

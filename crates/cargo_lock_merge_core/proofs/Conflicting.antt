@@ -4,21 +4,23 @@ use Rattle.std.specs.List.{Contains}
 use Rattle.std.proofs.lemmas.List.{get_or_default}
 use Rattle.std.proofs.lemmas.List.Elements.{All-push}
 use Rattle.std.proofs.lemmas.Option.{get_or_from_slice_get, slice_get-get_or, slice_get_within}
+use Rattle.cargo_lock_parts.specs.Checksum.{digest_of}
 use Rattle.cargo_lock_parts.specs.SourceKey.{Key}
+use Rattle.cargo_lock_parts.specs.declared.package.checksum.Checksum as parts
 use Rattle.lists.proofs.Members.{map-in}
 use Rattle.cargo_lock_merge_core.specs.declared.conflicts.Conflict.{Conflict}
 use Rattle.cargo_lock_merge_core.specs.declared.conflicts.Kind.{Kind}
-use Rattle.cargo_lock_merge_core.specs.declared.conflicts.Kind.TheVariants.{Package, Checksum, Replacement}
+use Rattle.cargo_lock_merge_core.specs.declared.conflicts.Kind.TheVariants.{Package, Checksum, LostChecksum, Replacement, Version}
 use Rattle.cargo_lock_merge_core.specs.declared.entry.Chosen.{Chosen}
 use Rattle.cargo_lock_merge_core.specs.declared.entry.Entry.{Entry}
 use Rattle.cargo_lock_merge_core.specs.declared.plan.Plan.{Plan}
 use Rattle.cargo_lock_merge_core.specs.declared.rule3.Side.{Side}
-use Rattle.cargo_lock_merge_core.specs.Choices.{IsChosen, IsOfSide, IsPackageConflict, checksum_if, if_same, replacement_if}
+use Rattle.cargo_lock_merge_core.specs.Choices.{HasLostChecksum, HasTwoNewVersions, IsChosen, IsOfSide, IsPackageConflict, if_same, replacement_if}
 use Rattle.cargo_lock_merge_core.specs.Commits.{IsSourceConflict, Lockfiles, git_in}
 use Rattle.cargo_lock_merge_core.specs.Conflicts.{AreConflicts, HasConflict, IsChosenIf, IsConflictAt, IsConflictOf, IsConflictPlace, conflict_of, conflict_places}
 use Rattle.cargo_lock_merge_core.specs.Disputes.{HasDispute, IsDisputedOf}
 use Rattle.cargo_lock_merge_core.specs.Entries.{IsChosenOf, IsSettled}
-use Rattle.cargo_lock_merge_core.specs.Merge.{AreInConflict, HaveAt, IsConflict, IsReachedInMerge, OfChecksum, OfPackage, OfReplacement, OfSource, Triple, lockfiles_of}
+use Rattle.cargo_lock_merge_core.specs.Merge.{AreInConflict, HaveAt, IsMatter, IsReachedInMerge, OfChecksum, OfLostChecksum, OfPackage, OfReplacement, OfSource, OfVersion, Triple, lockfiles_of}
 use Rattle.cargo_lock_merge_core.specs.Merged.{HasPlan, IsUnsettled}
 use Rattle.cargo_lock_merge_core.specs.Numbered.{IsChecksumChoice, IsReplacementChoice, IsRowOf, data_if, place_number, place_numbers, placed_data}
 use Rattle.cargo_lock_merge_core.specs.Placed.{HasAt, IsAt, PlacedData}
@@ -27,7 +29,8 @@ use Rattle.lists.specs.Marks.{IsMarked}
 use Rattle.cargo_lock_merge_core.proofs.Indexing.{at-once}
 use Rattle.cargo_lock_merge_core.proofs.Kept.{AreKept, kept-end, kept-pass, kept-push}
 use Rattle.cargo_lock_merge_core.proofs.Landing.{reached-there}
-use Rattle.cargo_lock_merge_core.proofs.Once.{at-same, checksum-alike, chosen-once, replacement-alike}
+use Rattle.cargo_lock_merge_core.proofs.Once.{at-same, checksum-alike, chosen-once, lost-alike, replacement-alike}
+use Rattle.cargo_lock_merge_core.proofs.OnlyValue.{only-apart}
 use Rattle.cargo_lock_merge_core.proofs.Planning.{map-push}
 use Rattle.cargo_lock_merge_core.proofs.SoFar.{entry-at, long, place-at, row-of, slice-at, value-apart}
 
@@ -129,7 +132,7 @@ module _ (s : Triple ℕ) (plan : Plan) (h : HasPlan s plan) where
 
   -- a source of the row in dispute is that of a conflict
   pub dispute-conflict : (e : Entry) (p : ℕ) (g : Key) → IsReachedInMerge s p → HaveAt s p (data_if e.row.base) (data_if e.row.ours) (data_if e.row.theirs)
-      → IsDisputedOf (lockfiles_of s) (data_if e.row.ours) g ⊎ IsDisputedOf (lockfiles_of s) (data_if e.row.theirs) g → IsConflict s (OfSource g)
+      → IsDisputedOf (lockfiles_of s) (data_if e.row.ours) g ⊎ IsDisputedOf (lockfiles_of s) (data_if e.row.theirs) g → IsMatter s (OfSource g)
   dispute-conflict e p g reached at (inl k) =
       let (x, side, is, conflict) = disputed-some (lockfiles_of s) (data_if e.row.ours) g k in
       ((p, reached, (data_if e.row.base, data_if e.row.ours, data_if e.row.theirs, x, at, inl side, is)), conflict)
@@ -140,7 +143,7 @@ module _ (s : Triple ℕ) (plan : Plan) (h : HasPlan s plan) where
   -- ---- what the conflicts are
 
   holds-to : (kind : Kind) (e : Entry) (p : ℕ) (o : Option Chosen) → IsReachedInMerge s p → HaveAt s p (data_if e.row.base) (data_if e.row.ours) (data_if e.row.theirs)
-      → ((x : PlacedData ℕ) × IsOfSide (data_if e.row.ours) (data_if e.row.theirs) x) → IsSettled (lockfiles_of s) e.row o → HasConflict (lockfiles_of s) kind e.row o → IsConflict s (conflict_of kind p)
+      → ((x : PlacedData ℕ) × IsOfSide (data_if e.row.ours) (data_if e.row.theirs) x) → IsSettled (lockfiles_of s) e.row o → HasConflict (lockfiles_of s) kind e.row o → IsMatter s (conflict_of kind p)
   holds-to Package e p None reached at one none c = (
     reached,
     (data_if e.row.base, data_if e.row.ours, data_if e.row.theirs, at, (record { one = one.0; of_side = one.1; none = none }, apart-of e c)),
@@ -156,7 +159,8 @@ module _ (s : Triple ℕ) (plan : Plan) (h : HasPlan s plan) where
       placed_data d.«package»,
       at,
       settled.0,
-      subst (λ (w : Option Side). IsChecksumChoice (data_if e.row.base) (data_if e.row.ours) (data_if e.row.theirs) (placed_data d.«package») w) c settled.1.checksum,
+      subst (λ (w : Option (Option parts.Checksum)). IsChecksumChoice (data_if e.row.base) (data_if e.row.ours) (data_if e.row.theirs) (placed_data d.«package») (option_map (option_map digest_of) w)) c
+          settled.1.checksum,
     ),
   )
   holds-to Replacement e p None reached at one none c = absurd c
@@ -172,10 +176,16 @@ module _ (s : Triple ℕ) (plan : Plan) (h : HasPlan s plan) where
       subst (λ (w : Option Side). IsReplacementChoice (data_if e.row.base) (data_if e.row.ours) (data_if e.row.theirs) (placed_data d.«package») w) c settled.1.replacement,
     ),
   )
+  holds-to Version e p None reached at one none c = absurd c
+  holds-to Version e p (Some d) reached at one settled c =
+      (reached, (data_if e.row.base, data_if e.row.ours, data_if e.row.theirs, placed_data d.«package», at, settled.0, c))
+  holds-to LostChecksum e p None reached at one none c = absurd c
+  holds-to LostChecksum e p (Some d) reached at one settled c =
+      (reached, (data_if e.row.base, data_if e.row.ours, data_if e.row.theirs, placed_data d.«package», at, settled.0, c))
 
-  is-none : (o : Option Side) → ((side : Side) → ¬ (o ≡ Some side)) → o ≡ None
+  is-none : {X : Type 0} (o : Option X) → ((x : X) → ¬ (o ≡ Some x)) → o ≡ None
   is-none None f = refl
-  is-none (Some side) f = absurd (f side refl)
+  is-none (Some x) f = absurd (f x refl)
 
   module _ (e : Entry) (p : ℕ) (at : HaveAt s p (data_if e.row.base) (data_if e.row.ours) (data_if e.row.theirs)) where
     -- what the three have there is the row
@@ -198,14 +208,13 @@ module _ (s : Triple ℕ) (plan : Plan) (h : HasPlan s plan) where
     checksum-from : (o : Option Chosen) → IsSettled (lockfiles_of s) e.row o → (c : PlacedData ℕ) → IsChosenOf (lockfiles_of s) e.row c
         → IsChecksumChoice (data_if e.row.base) (data_if e.row.ours) (data_if e.row.theirs) c None → HasConflict (lockfiles_of s) Checksum e.row o
     checksum-from None none c chosen conflict = none c chosen
-    checksum-from (Some d) settled c chosen conflict = is-none d.checksum (λ side is.
+    checksum-from (Some d) settled c chosen conflict = is-none d.checksum (λ checksum is.
         let x = data_if e.row.base in
         let y = data_if e.row.ours in
         let z = data_if e.row.theirs in
         let same = chosen-once (lockfiles_of s) x y z (placed_data d.«package») c settled.0 chosen in
-        let v = subst (λ (w : Option Side). IsChecksumChoice x y z (placed_data d.«package») w) is settled.1.checksum in
-        value-apart s plan h (checksum_if (if_same c x)) (option_map (λ (w : PlacedData ℕ). w.content.checksum) (if_same c y)) (option_map (λ (w : PlacedData ℕ). w.content.checksum) (if_same c z))
-        v.0.content.checksum (checksum-alike (placed_data d.«package») c same x y z v.0.content.checksum v.2) conflict)
+        let v = subst (λ (w : Option (Option parts.Checksum)). IsChecksumChoice x y z (placed_data d.«package») (option_map (option_map digest_of) w)) is settled.1.checksum in
+        only-apart _ _ _ (option_map digest_of checksum) (checksum-alike (placed_data d.«package») c same x y z (option_map digest_of checksum) v) conflict)
 
     replacement-from : (o : Option Chosen) → IsSettled (lockfiles_of s) e.row o → (c : PlacedData ℕ) → IsChosenOf (lockfiles_of s) e.row c
         → IsReplacementChoice (data_if e.row.base) (data_if e.row.ours) (data_if e.row.theirs) c None → HasConflict (lockfiles_of s) Replacement e.row o
@@ -219,7 +228,21 @@ module _ (s : Triple ℕ) (plan : Plan) (h : HasPlan s plan) where
         value-apart s plan h (replacement_if (if_same c x)) (option_map (λ (w : PlacedData ℕ). w.replacement) (if_same c y)) (option_map (λ (w : PlacedData ℕ). w.replacement) (if_same c z))
         v.0.replacement (replacement-alike (placed_data d.«package») c same x y z v.0.replacement v.2) conflict)
 
-    holds-from : (kind : Kind) → IsSettled (lockfiles_of s) e.row e.chosen → IsConflict s (conflict_of kind p) → HasConflict (lockfiles_of s) kind e.row e.chosen
+    version-from : (o : Option Chosen) → IsSettled (lockfiles_of s) e.row o → (c : PlacedData ℕ) → IsChosenOf (lockfiles_of s) e.row c
+        → HasTwoNewVersions (data_if e.row.base) (data_if e.row.ours) (data_if e.row.theirs) → HasConflict (lockfiles_of s) Version e.row o
+    version-from None none c chosen changed = none c chosen
+    version-from (Some d) settled c chosen changed = changed
+
+    lost-from : (o : Option Chosen) → IsSettled (lockfiles_of s) e.row o → (c : PlacedData ℕ) → IsChosenOf (lockfiles_of s) e.row c
+        → HasLostChecksum (data_if e.row.base) (data_if e.row.ours) (data_if e.row.theirs) c → HasConflict (lockfiles_of s) LostChecksum e.row o
+    lost-from None none c chosen lost = none c chosen
+    lost-from (Some d) settled c chosen lost =
+        let x = data_if e.row.base in
+        let y = data_if e.row.ours in
+        let z = data_if e.row.theirs in
+        lost-alike c (placed_data d.«package») (chosen-once (lockfiles_of s) x y z c (placed_data d.«package») chosen settled.0) x y z lost
+
+    holds-from : (kind : Kind) → IsSettled (lockfiles_of s) e.row e.chosen → IsMatter s (conflict_of kind p) → HasConflict (lockfiles_of s) kind e.row e.chosen
     holds-from Package settled (reached, (x, y, z, at', clash)) = package-from e.chosen settled (same-row x y z at' (λ a b c. IsPackageConflict (lockfiles_of s) a b c) clash)
     holds-from Checksum settled (reached, (x, y, z, c, at', chosen, conflict)) =
         let k = same-row x y z at' (λ a b d. IsChosen (lockfiles_of s) a b d c × IsChecksumChoice a b d c None) (chosen, conflict) in
@@ -227,23 +250,31 @@ module _ (s : Triple ℕ) (plan : Plan) (h : HasPlan s plan) where
     holds-from Replacement settled (reached, (x, y, z, c, at', chosen, conflict)) =
         let k = same-row x y z at' (λ a b d. IsChosen (lockfiles_of s) a b d c × IsReplacementChoice a b d c None) (chosen, conflict) in
         replacement-from e.chosen settled c k.0 k.1
+    holds-from Version settled (reached, (x, y, z, c, at', chosen, changed)) =
+        let k = same-row x y z at' (λ a b d. IsChosen (lockfiles_of s) a b d c × HasTwoNewVersions a b d) (chosen, changed) in
+        version-from e.chosen settled c k.0 k.1
+    holds-from LostChecksum settled (reached, (x, y, z, c, at', chosen, lost)) =
+        let k = same-row x y z at' (λ a b d. IsChosen (lockfiles_of s) a b d c × HasLostChecksum a b d c) (chosen, lost) in
+        lost-from e.chosen settled c k.0 k.1
 
-  is-reached : (kind : Kind) (p : ℕ) → IsConflict s (conflict_of kind p) → IsReachedInMerge s p
+  is-reached : (kind : Kind) (p : ℕ) → IsMatter s (conflict_of kind p) → IsReachedInMerge s p
   is-reached Package p c = c.0
   is-reached Checksum p c = c.0
   is-reached Replacement p c = c.0
+  is-reached Version p c = c.0
+  is-reached LostChecksum p c = c.0
 
-  pub conflict-place : (kind : Kind) (p : ℕ) → IsConflictPlace plan (lockfiles_of s) kind p ↔ IsConflict s (conflict_of kind p)
+  pub conflict-place : (kind : Kind) (p : ℕ) → IsConflictPlace plan (lockfiles_of s) kind p ↔ IsMatter s (conflict_of kind p)
   conflict-place kind p = (to, from)
     where
-      to : IsConflictPlace plan (lockfiles_of s) kind p → IsConflict s (conflict_of kind p)
+      to : IsConflictPlace plan (lockfiles_of s) kind p → IsMatter s (conflict_of kind p)
       to (k, e, at, here, marked, conflict) =
           let reached = subst (IsReachedInMerge s) here (marked-entry k e at marked) in
           let among = entry-among k e at in
           let row = row-at e p here (row-of s plan h e among) in
           holds-to kind e p e.chosen reached row (one-there e p row (reached-there s h.ours_closed h.theirs_closed p reached)) (entry-at s plan h e among).settled conflict
 
-      from : IsConflict s (conflict_of kind p) → IsConflictPlace plan (lockfiles_of s) kind p
+      from : IsMatter s (conflict_of kind p) → IsConflictPlace plan (lockfiles_of s) kind p
       from c =
           let (k, e, at, here, marked) = reached-entry p (is-reached kind p c) in
           let among = entry-among k e at in
@@ -293,9 +324,9 @@ module _ (s : Triple ℕ) (plan : Plan) (h : HasPlan s plan) where
   conflict-by : (e : Entry) (p : ℕ) (o : Option Chosen) → IsReachedInMerge s p → HaveAt s p (data_if e.row.base) (data_if e.row.ours) (data_if e.row.theirs)
       → ((x : PlacedData ℕ) × IsOfSide (data_if e.row.ours) (data_if e.row.theirs) x) → IsSettled (lockfiles_of s) e.row o → IsUnsettled o → AreInConflict s
   conflict-by e p None reached at one settled u none =
-      none (OfPackage p) (holds-to Package e p None reached at one settled (λ (g, k). none (OfSource g) (dispute-conflict e p g reached at k)))
-  conflict-by e p (Some d) reached at one settled (inl u) none = none (OfChecksum p) (holds-to Checksum e p (Some d) reached at one settled u)
-  conflict-by e p (Some d) reached at one settled (inr u) none = none (OfReplacement p) (holds-to Replacement e p (Some d) reached at one settled u)
+      none (OfPackage p) tt (holds-to Package e p None reached at one settled (λ (g, k). none (OfSource g) tt (dispute-conflict e p g reached at k)))
+  conflict-by e p (Some d) reached at one settled (inl u) none = none (OfChecksum p) tt (holds-to Checksum e p (Some d) reached at one settled u)
+  conflict-by e p (Some d) reached at one settled (inr u) none = none (OfReplacement p) tt (holds-to Replacement e p (Some d) reached at one settled u)
 
   pub some-conflict : (i : ℕ) (e : Entry) → i < length plan.entries.items → e ≡ get_or plan.entries.items i e → IsMarked plan.reached.items i → IsUnsettled e.chosen → AreInConflict s
   some-conflict i e low is marked u =

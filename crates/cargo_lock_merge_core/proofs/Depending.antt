@@ -4,7 +4,7 @@ use Rattle.std.specs.Bool.{Decides}
 use Rattle.std.specs.List.{Contains}
 use Rattle.cargo_lock_parts.specs.Identity.{identity_of}
 use Rattle.cargo_lock_parts.specs.IdentityOrder.{is_same_identity}
-use Rattle.cargo_lock_merge_core.specs.Choices.{Counts, DependsOn, IsDependencyOf}
+use Rattle.cargo_lock_merge_core.specs.Choices.{Counts, DependsOn, IsDependencyOf, IsSourceless}
 use Rattle.cargo_lock_merge_core.specs.Placed.{PlacedData, key, key_if}
 use Rattle.cargo_lock_merge_core.specs.Rule3.{IsKept}
 use Rattle.cargo_lock_merge_core.proofs.Agreeing.{same-Decides}
@@ -27,12 +27,15 @@ module _ (b : Option (PlacedData ℕ)) (x y : PlacedData ℕ) (r : Bool) (is : r
   pub counts-same : r ≡ true → Decides true (Counts b x y)
   counts-same t = (λ h. inl ((same-Decides y x r is).0 t), λ h. refl)
 
-  pub counts-base : (s : Bool) → r ≡ false → Decides s (Some (key y) ≡ key_if b) → Decides s (Counts b x y)
-  counts-base s f d = (
-    λ h. inr (sym (d.0 h)),
+  pub counts-base : r ≡ false → Some (key y) ≡ key_if b → Decides true (Counts b x y)
+  counts-base f e = (λ h. inr (inl (sym e)), λ h. refl)
+
+  pub counts-sourceless : (s : Bool) → r ≡ false → ¬ (Some (key y) ≡ key_if b) → Decides s (IsSourceless y) → Decides s (Counts b x y)
+  counts-sourceless s f none d = (
+    λ h. inr (inr (d.0 h)),
     λ h. elim h [
       | inl e ↦ absurd (true≢false (sym ((same-Decides y x r is).1 e) ∙ f))
-      | inr e ↦ d.1 (sym e)
+      | inr more ↦ elim more [ inl e ↦ absurd (none (sym e)) | inr k ↦ d.1 k ]
     ],
   )
 

@@ -16,7 +16,7 @@ use Rattle.cargo_lock_merge_core.specs.declared.plan.Plan.{Plan}
 use Rattle.cargo_lock_merge_core.specs.CommitMaps.{IsBareGit, commit_if}
 use Rattle.cargo_lock_merge_core.specs.Commits.{AreCommits, Lockfiles, git_in}
 use Rattle.cargo_lock_merge_core.specs.Disputes.{AreDisputes, AreInDispute, AreListedDisputes, HasCommits, HasNoDispute, HasPutDispute, HasPutNew, IsDisputeAt, IsDisputeOf, IsDisputedOf, IsSourceOf, source_key}
-use Rattle.cargo_lock_merge_core.specs.Merge.{IsConflict, OfSource, Triple, lockfiles_of}
+use Rattle.cargo_lock_merge_core.specs.Merge.{IsMatter, OfSource, Triple, lockfiles_of}
 use Rattle.cargo_lock_merge_core.specs.Merged.{HasPlan}
 use Rattle.cargo_lock_merge_core.specs.Numbered.{data_if}
 use Rattle.cargo_lock_merge_core.specs.Placed.{PlacedData}
@@ -227,11 +227,11 @@ module _ (plan : Plan) (all : Lockfiles) where
 -- ---- those of all entries
 
 module _ (s : Triple ℕ) (plan : Plan) (h : HasPlan s plan) where
-  to-conflict : (k : ℕ) (g : Key) → IsDisputeAt plan (lockfiles_of s) k g → IsConflict s (OfSource g)
+  to-conflict : (k : ℕ) (g : Key) → IsDisputeAt plan (lockfiles_of s) k g → IsMatter s (OfSource g)
   to-conflict k g (e, at, marked, which) =
       dispute-conflict s plan h e e.row.place g (marked-entry s plan h k e at marked) (row-at s plan h e e.row.place refl (row-of s plan h e (entry-among s plan h k e at))) which
 
-  of-conflict : (g : Key) → IsConflict s (OfSource g) → (k : ℕ) × (k < length plan.entries.items) × IsDisputeAt plan (lockfiles_of s) k g
+  of-conflict : (g : Key) → IsMatter s (OfSource g) → (k : ℕ) × (k < length plan.entries.items) × IsDisputeAt plan (lockfiles_of s) k g
   of-conflict g ((p, reached, (x, y, z, c, at, side, is)), conflict) =
       let (k, e, here, place, marked) = reached-entry s plan h p reached in
       let row = row-at s plan h e p place (row-of s plan h e (entry-among s plan h k e here)) in

@@ -11,6 +11,7 @@ pub mod Indexing
 pub mod Finding
 pub mod Sources
 pub mod Agreeing
+pub mod OnlyValue
 pub mod Choosing
 pub mod Merging
 pub mod Putting

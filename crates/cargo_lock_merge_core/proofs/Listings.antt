@@ -1,5 +1,5 @@
 -- Two listings of the same packages at their places have the same merge and the same conflicts.
-use Rattle.std.proofs.Common.{◌≡◌, ◌∙◌, ◌⊎◌, ◌↔◌, inl, inr, ℕ, Bool, true, false, cond, List, Option, Some, None, ap, option_map, refl, slice_get, subst, sym}
+use Rattle.std.proofs.Common.{◌≡◌, ◌∙◌, ◌⊎◌, ◌↔◌, inl, inr, ℕ, Bool, true, false, cond, List, Option, Some, None, ap, option_map, refl, slice_get, subst, sym, is_none}
 use Rattle.std.specs.Prelude.{◌||◌, count_by, nat_lt}
 use Rattle.std.specs.List.{Contains}
 use Rattle.std.specs.declared.cmp.Ordering.TheVariants.{Less}
@@ -8,15 +8,16 @@ use Rattle.cargo_lock_parts.specs.Identity.{Identity, PackageData, identity_key,
 use Rattle.cargo_lock_parts.specs.IdentityOrder.{is_same_identity, version_cmp}
 use Rattle.cargo_lock_parts.specs.SourceKey.{Key}
 use Rattle.cargo_lock_merge_core.specs.ByPlaces.{AreAllPlaced}
-use Rattle.cargo_lock_merge_core.specs.Choices.{AreAbove, AreOfGit, Counts, DependsOn, HasLowerVersion, IsByCommit, IsByRule, IsChecksum, IsChecksumConflict, IsChosen, IsClash, IsDependency, IsDependencyOf, IsGreater, IsOfGit, IsOfRegistry, IsOfSide, IsReplacement, IsReplacementConflict, checksum_if, if_same, replacement_if}
+use Rattle.cargo_lock_merge_core.specs.Choices.{AreAbove, AreOfGit, AreOfMember, Counts, DependsOn, HasLostChecksum, HasLowerVersion, HasTwoNewVersions, HasNoChecksumFor, IsByCommit, IsByRule, IsChecksum, IsChecksumConflict, IsChosen, IsClash, IsDependency, IsDependencyOf, IsGreater, IsOfGit, IsOfRegistry, IsOfSide, IsReplacement, IsReplacementConflict, IsVersionDecisive, checksum_if, if_same, replacement_if}
 use Rattle.cargo_lock_edges.specs.Nearest.{key_without_commit}
 use Rattle.cargo_lock_merge_core.specs.Commits.{HasCommit, IsAtMergedCommit, IsAtSource, IsCommitIn, IsSourceConflict, Lockfiles, git_in}
 use Rattle.cargo_lock_merge_core.specs.Linked.{IsStatedAt}
 use Rattle.cargo_lock_merge_core.specs.Listings.{ListingsAreSymmetric, ListingsHaveOneConflict, ListingsHaveOneMerge, ListingsHaveOneMoved, MergeOfListsIsSymmetric, MergeOfListsIsUnique, exchanged_sides}
-use Rattle.cargo_lock_merge_core.specs.Merge.{ConflictData, HasReference, HaveAt, IsConflict, IsMerge, IsMergedPackage, IsMovedReference, IsReachedInMerge, IsRootOfMerge, LeadsToInMerge, OfChecksum, OfPackage, OfReplacement, OfSource, Triple, lockfiles_of}
+use Rattle.cargo_lock_merge_core.specs.Merge.{MatterData, HasReference, HaveAt, IsMatter, IsMerge, IsMergedPackage, IsMovedReference, IsReachedInMerge, IsRootOfMerge, LeadsToInMerge, OfChecksum, OfPackage, OfReplacement, OfSource, OfVersion, OfLostChecksum, Triple, lockfiles_of}
 use Rattle.cargo_lock_merge_core.specs.Placed.{HasMember, IsAt, PlacedData, contents_of, key, key_if}
 use Rattle.cargo_lock_merge_core.specs.Places.{ArePlaced, IsMergeOf, IsPlaceIn, IsPlaced, IsReplacementIn, Place, has_several, is_member_named, merge_place, version_in}
 use Rattle.cargo_lock_merge_core.specs.Rule3.{IsAgreed, IsDisputed, IsInConflict, IsMergedValue}
+use Rattle.cargo_lock_merge_core.proofs.OnlyValue.{only-cast, two-cast}
 use Rattle.cargo_lock_merge_core.proofs.Alike.{merge-once}
 use Rattle.cargo_lock_merge_core.proofs.Kept.{kept-alike}
 use Rattle.cargo_lock_graph.proofs.EdgesOnce.{target-one}
@@ -182,6 +183,35 @@ module _ {P : Type 0} where
   greater-like o t x o' t' x' lo lt lx (inl h) = inl (below-like t o t' o' lt lo h.0, sym (key-like x x' lx) ∙ h.1 ∙ key-like o o' lo)
   greater-like o t x o' t' x' lo lt lx (inr h) = inr (below-like o t o' t' lo lt h.0, sym (key-like x x' lx) ∙ h.1 ∙ key-like t t' lt)
 
+  member-like-if : (b b' : Option (PlacedData P)) (o t o' t' : PlacedData P) → IsLikeIf b b' → IsLike o o' → IsLike t t' → AreOfMember b o t → AreOfMember b' o' t'
+  member-like-if None b' o t o' t' lb lo lt h = let e = h.base in absurd (cc e)
+  member-like-if (Some x) None o t o' t' lb lo lt h = absurd lb
+  member-like-if (Some x) (Some y) o t o' t' lb lo lt h = record {
+    old = y;
+    base = refl;
+    sourceless = subst (λ (p : PackageData). p.source ≡ None) lb.content (subst (λ (z : PlacedData P). z.content.source ≡ None) (sym (same_Some x h.old h.base)) h.sourceless);
+    ours = subst (λ (p : PackageData). p.source ≡ None) lo.content h.ours;
+    theirs = subst (λ (p : PackageData). p.source ≡ None) lt.content h.theirs;
+  }
+
+  decisive-like : (b b' : Option (PlacedData P)) (o t o' t' : PlacedData P) → IsLikeIf b b' → IsLike o o' → IsLike t t' → IsVersionDecisive b o t → IsVersionDecisive b' o' t'
+  decisive-like b b' o t o' t' lb lo lt (inl h) = inl (record {
+    ours = subst IsOfRegistry lo.content h.ours;
+    theirs = subst IsOfRegistry lt.content h.theirs;
+    above = above-like b b' o t o' t' lb lo lt h.above;
+  })
+  decisive-like b b' o t o' t' lb lo lt (inr h) = inr (member-like-if b b' o t o' t' lb lo lt h)
+
+  versions-like : (b o t b' o' t' : Option (PlacedData P)) → IsLikeIf b b' → IsLikeIf o o' → IsLikeIf t t' → HasTwoNewVersions b o t → HasTwoNewVersions b' o' t'
+  versions-like b None t b' o' t' lb lo lt h = absurd h
+  versions-like b (Some o) None b' o' t' lb lo lt h = absurd h
+  versions-like b (Some o) (Some t) b' None t' lb lo lt h = absurd lo
+  versions-like b (Some o) (Some t) b' (Some v) None lb lo lt h = absurd lt
+  versions-like b (Some o) (Some t) b' (Some v) (Some w) lb lo lt (are, changed) = (
+    member-like-if b b' o t v w lb lo lt are,
+    conflict-cast _ _ _ _ _ _ (key-like-if b b' lb) (ap Some (key-like o v lo)) (ap Some (key-like t w lt)) changed,
+  )
+
   rule-like : (b o t b' o' t' : Option (PlacedData P)) (x x' : PlacedData P) → IsLikeIf b b' → IsLikeIf o o' → IsLikeIf t t' → IsLike x x' → IsByRule b o t x → IsByRule b' o' t' x'
   rule-like b None None b' None None x x' lb lo lt lx h = h
   rule-like b None None b' None (Some w) x x' lb lo lt lx h = absurd lt
@@ -198,9 +228,7 @@ module _ {P : Type 0} where
   rule-like b (Some o) (Some t) b' (Some v) (Some w) x x' lb lo lt lx (inr (h, greater)) = inr (
     record {
       changed = conflict-cast _ _ _ _ _ _ (key-like-if b b' lb) (ap Some (key-like o v lo)) (ap Some (key-like t w lt)) h.changed;
-      ours = subst IsOfRegistry lo.content h.ours;
-      theirs = subst IsOfRegistry lt.content h.theirs;
-      above = above-like b b' o t v w lb lo lt h.above;
+      decisive = decisive-like b b' o t v w lb lo lt h.decisive;
     },
     greater-like o t x v w x' lo lt lx greater,
   )
@@ -246,7 +274,8 @@ module _ {P : Type 0} where
 
   counts-like : (b b' : Option (PlacedData P)) (x y x' y' : PlacedData P) → IsLikeIf b b' → IsLike x x' → IsLike y y' → Counts b x y → Counts b' x' y'
   counts-like b b' x y x' y' lb lx ly (inl e) = inl (sym (key-like y y' ly) ∙ e ∙ key-like x x' lx)
-  counts-like b b' x y x' y' lb lx ly (inr e) = inr (sym (key-like-if b b' lb) ∙ e ∙ ap Some (key-like y y' ly))
+  counts-like b b' x y x' y' lb lx ly (inr (inl e)) = inr (inl (sym (key-like-if b b' lb) ∙ e ∙ ap Some (key-like y y' ly)))
+  counts-like b b' x y x' y' lb lx ly (inr (inr none)) = inr (inr (subst (λ (p : PackageData). p.source ≡ None) ly.content none))
 
   dependency-like : (b o t b' o' t' : Option (PlacedData P)) (x x' : PlacedData P) (d : P) → IsLikeIf b b' → IsLikeIf o o' → IsLikeIf t t' → IsLike x x'
       → IsDependencyOf b o t x d → IsDependencyOf b' o' t' x' d
@@ -287,11 +316,8 @@ module _ {P : Type 0} where
       by false = refl
 
   module _ (b o t b' o' t' : Option (PlacedData P)) (x x' : PlacedData P) (lb : IsLikeIf b b') (lo : IsLikeIf o o') (lt : IsLikeIf t t') (lx : IsLike x x') where
-    old-checksum : checksum_if (if_same x b) ≡ checksum_if (if_same x' b')
-    old-checksum = same-like (λ w. checksum_if w) (λ y w like. ap (λ (p : PackageData). p.checksum) like.content) x x' b b' lx lb
-
-    side-checksum : (w w' : Option (PlacedData P)) → IsLikeIf w w' → option_map (λ (y : PlacedData P). y.content.checksum) (if_same x w) ≡ option_map (λ (y : PlacedData P). y.content.checksum) (if_same x' w')
-    side-checksum w w' lw = same-like (option_map (λ (y : PlacedData P). y.content.checksum)) (λ y w like. ap (λ (p : PackageData). Some p.checksum) like.content) x x' w w' lx lw
+    same-checksum : (w w' : Option (PlacedData P)) → IsLikeIf w w' → checksum_if (if_same x w) ≡ checksum_if (if_same x' w')
+    same-checksum w w' lw = same-like (λ w. checksum_if w) (λ y w like. ap (λ (p : PackageData). p.checksum) like.content) x x' w w' lx lw
 
     old-replacement : replacement_if (if_same x b) ≡ replacement_if (if_same x' b')
     old-replacement = same-like (λ w. replacement_if w) (λ y w like. like.replacement) x x' b b' lx lb
@@ -300,13 +326,32 @@ module _ {P : Type 0} where
     side-replacement w w' lw = same-like (option_map (λ (y : PlacedData P). y.replacement)) (λ y w like. ap Some like.replacement) x x' w w' lx lw
 
     checksum-like : (c : Option (List ℕ)) → IsChecksum b o t x c → IsChecksum b' o' t' x' c
-    checksum-like c h = value-cast _ _ _ _ _ _ c old-checksum (side-checksum o o' lo) (side-checksum t t' lt) h
+    checksum-like c h = only-cast _ _ _ _ _ _ c (same-checksum b b' lb) (same-checksum o o' lo) (same-checksum t t' lt) h
 
     replacement-like : (r : Option P) → IsReplacement b o t x r → IsReplacement b' o' t' x' r
     replacement-like r h = value-cast _ _ _ _ _ _ r old-replacement (side-replacement o o' lo) (side-replacement t t' lt) h
 
     checksum-dispute-like : IsChecksumConflict b o t x → IsChecksumConflict b' o' t' x'
-    checksum-dispute-like h = dispute-cast _ _ _ _ _ _ old-checksum (side-checksum o o' lo) (side-checksum t t' lt) h
+    checksum-dispute-like h = two-cast _ _ _ _ _ _ (same-checksum b b' lb) (same-checksum o o' lo) (same-checksum t t' lt) h
+
+    lacks-like : (w w' : Option (PlacedData P)) → IsLikeIf w w' → HasNoChecksumFor x w → HasNoChecksumFor x' w'
+    lacks-like w w' lw (y, is, none) = by (if_same x' w') refl
+      where
+        -- whether there is such a package, and whether it has no checksum
+        same : option_map (λ (v : PlacedData P). is_none v.content.checksum) (if_same x' w') ≡ Some true
+        same = sym (same-like (option_map (λ (v : PlacedData P). is_none v.content.checksum)) (λ y w like. ap (λ (p : PackageData). Some (is_none p.checksum)) like.content) x x' w w' lx lw)
+            ∙ ap (option_map (λ (v : PlacedData P). is_none v.content.checksum)) is ∙ ap (λ (c : Option (List ℕ)). Some (is_none c)) none
+
+        absent : (c : Option (List ℕ)) → is_none c ≡ true → c ≡ None
+        absent None e = refl
+        absent (Some c) e = absurd (cc e)
+
+        by : (o : Option (PlacedData P)) → if_same x' w' ≡ o → HasNoChecksumFor x' w'
+        by None e = let n = sym same ∙ ap (option_map (λ (v : PlacedData P). is_none v.content.checksum)) e in absurd (cc n)
+        by (Some v) e = (v, e, absent v.content.checksum (same_Some (is_none v.content.checksum) true (sym (ap (option_map (λ (v : PlacedData P). is_none v.content.checksum)) e) ∙ same)))
+
+    lost-like : HasLostChecksum b o t x → HasLostChecksum b' o' t' x'
+    lost-like (c, is, lost) = (c, sym (same-checksum b b' lb) ∙ is, elim lost [ inl h ↦ inl (lacks-like o o' lo h) | inr h ↦ inr (lacks-like t t' lt h) ])
 
     replacement-dispute-like : IsReplacementConflict b o t x → IsReplacementConflict b' o' t' x'
     replacement-dispute-like h = dispute-cast _ _ _ _ _ _ old-replacement (side-replacement o o' lo) (side-replacement t t' lt) h
@@ -369,7 +414,7 @@ module _ {P : Type 0} where
     each = λ x among. package-like s t h x (merge.each x among);
   }
 
-  pub conflict-like : (s t : Triple P) → AreAllLike s t → (c : ConflictData P) → IsConflict s c → IsConflict t c
+  pub conflict-like : (s t : Triple P) → AreAllLike s t → (c : MatterData P) → IsMatter s c → IsMatter t c
   conflict-like s t h (OfPackage p) (r, (x, y, z, at, (clash, none))) =
       let (x', y', z', at', lx, ly, lz) = have-like s t h p x y z at in (
         reached-like s t h p r,
@@ -394,6 +439,14 @@ module _ {P : Type 0} where
       let (x', y', z', at', lx, ly, lz) = have-like s t h p x y z at in
       let (e, chosen', like) = chosen-like s t h x y z x' y' z' lx ly lz c chosen in
       (reached-like s t h p r, (x', y', z', e, at', chosen', replacement-dispute-like x y z x' y' z' c e lx ly lz like dispute))
+  conflict-like s t h (OfVersion p) (r, (x, y, z, c, at, chosen, changed)) =
+      let (x', y', z', at', lx, ly, lz) = have-like s t h p x y z at in
+      let (e, chosen', like) = chosen-like s t h x y z x' y' z' lx ly lz c chosen in
+      (reached-like s t h p r, (x', y', z', e, at', chosen', versions-like x y z x' y' z' lx ly lz changed))
+  conflict-like s t h (OfLostChecksum p) (r, (x, y, z, c, at, chosen, lost)) =
+      let (x', y', z', at', lx, ly, lz) = have-like s t h p x y z at in
+      let (e, chosen', like) = chosen-like s t h x y z x' y' z' lx ly lz c chosen in
+      (reached-like s t h p r, (x', y', z', e, at', chosen', lost-like x y z x' y' z' c e lx ly lz like lost))
   conflict-like s t h (OfSource g) ((p, r, (x, y, z, c, at, side, is)), dispute) =
       let (x', y', z', at', lx, ly, lz) = have-like s t h p x y z at in
       let (e, side', like) = side-like y z y' z' c ly lz side in (

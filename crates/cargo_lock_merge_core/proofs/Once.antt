@@ -8,7 +8,7 @@ use Rattle.std.proofs.lemmas.Option.{same_Some}
 use Rattle.cargo_lock_parts.specs.Identity.{Identity, identity_of}
 use Rattle.cargo_lock_parts.specs.IdentityLaws.{is_same_identity-Decides, version_total}
 use Rattle.cargo_lock_parts.specs.IdentityOrder.{is_same_identity}
-use Rattle.cargo_lock_merge_core.specs.Choices.{Counts, HasLowerVersion, IsByRule, IsChecksum, IsChosen, IsDependencyOf, IsGreater, IsOfSide, IsReplacement, checksum_if, if_same, replacement_if}
+use Rattle.cargo_lock_merge_core.specs.Choices.{Counts, HasLostChecksum, HasLowerVersion, HasNoChecksumFor, IsByRule, IsChecksum, IsChosen, IsDependencyOf, IsGreater, IsOfSide, IsReplacement, checksum_if, if_same, replacement_if}
 use Rattle.cargo_lock_merge_core.specs.Commits.{Lockfiles}
 use Rattle.cargo_lock_merge_core.specs.Numbered.{IsInOrder, place_number, place_numbers}
 use Rattle.cargo_lock_merge_core.specs.Placed.{HasMember, IsAt, PlacedData, key, key_if}
@@ -17,6 +17,7 @@ use Rattle.cargo_lock_merge_core.specs.Rule3.{IsKept, IsMergedValue}
 use Rattle.cargo_lock_merge_core.proofs.Agreeing.{agreed-apart, agreed-once}
 use Rattle.cargo_lock_merge_core.proofs.Ascending.{far-below}
 use Rattle.cargo_lock_merge_core.proofs.Kept.{kept-alike}
+use Rattle.cargo_lock_merge_core.proofs.OnlyValue.{only-cast}
 
 -- ---- one package at a place
 
@@ -100,7 +101,7 @@ chosen-once all b o t x y (at, inr h) (at', inr k) = by-rule-once b o t x y at a
 module _ {P : Type 0} (x y : PlacedData P) (e : key x ≡ key y) where
   pub counts-alike : (b : Option (PlacedData P)) (z : PlacedData P) → Counts b x z → Counts b y z
   counts-alike b z (inl h) = inl (h ∙ e)
-  counts-alike b z (inr h) = inr h
+  counts-alike b z (inr more) = inr more
 
   same-test : (i : Identity) → is_same_identity i (identity_of x.content) ≡ is_same_identity i (identity_of y.content)
   same-test i =
@@ -125,10 +126,13 @@ module _ {P : Type 0} (x y : PlacedData P) (e : key x ≡ key y) where
       (subst (λ (w : Option (PlacedData P)). IsMergedValue (replacement_if w) (option_map (λ z. z.replacement) (if_same x o)) (option_map (λ z. z.replacement) (if_same x t)) r) (same-if b) h))
 
   pub checksum-alike : (b o t : Option (PlacedData P)) (c : Option (List ℕ)) → IsChecksum b o t x c → IsChecksum b o t y c
-  checksum-alike b o t c h =
-      subst (λ (w : Option (PlacedData P)). IsMergedValue (checksum_if (if_same y b)) (option_map (λ z. z.content.checksum) (if_same y o)) (option_map (λ z. z.content.checksum) w) c) (same-if t)
-      (subst (λ (w : Option (PlacedData P)). IsMergedValue (checksum_if (if_same y b)) (option_map (λ z. z.content.checksum) w) (option_map (λ z. z.content.checksum) (if_same x t)) c) (same-if o)
-      (subst (λ (w : Option (PlacedData P)). IsMergedValue (checksum_if w) (option_map (λ z. z.content.checksum) (if_same x o)) (option_map (λ z. z.content.checksum) (if_same x t)) c) (same-if b) h))
+  checksum-alike b o t c h = only-cast _ _ _ _ _ _ c (ap checksum_if (same-if b)) (ap checksum_if (same-if o)) (ap checksum_if (same-if t)) h
+
+  lacks-alike : (o : Option (PlacedData P)) → HasNoChecksumFor x o → HasNoChecksumFor y o
+  lacks-alike o (z, is, none) = (z, sym (same-if o) ∙ is, none)
+
+  pub lost-alike : (b o t : Option (PlacedData P)) → HasLostChecksum b o t x → HasLostChecksum b o t y
+  lost-alike b o t (c, is, lost) = (c, ap checksum_if (sym (same-if b)) ∙ is, elim lost [ inl h ↦ inl (lacks-alike o h) | inr h ↦ inr (lacks-alike t h) ])
 
 pub depends-alike : {P : Type 0} → (x y : PlacedData P) → key x ≡ key y → (b o t : Option (PlacedData P)) (d : P) → IsDependencyOf b o t x d → IsDependencyOf b o t y d
 depends-alike x y e b None None d h = h

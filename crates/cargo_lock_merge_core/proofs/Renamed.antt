@@ -7,15 +7,16 @@ use Rattle.std.proofs.lemmas.Option.{same_Some}
 use Rattle.cargo_lock_parts.specs.Identity.{PackageData, identity_of}
 use Rattle.cargo_lock_parts.specs.IdentityOrder.{is_same_identity}
 use Rattle.lists.proofs.Members.{in-map, map-in}
-use Rattle.cargo_lock_merge_core.specs.Choices.{Counts, DependsOn, IsChecksum, IsChecksumConflict, IsChosen, IsClash, IsDependency, IsDependencyOf, IsOfSide, IsReplacement, IsReplacementConflict, checksum_if, if_same, replacement_if}
+use Rattle.cargo_lock_merge_core.specs.Choices.{Counts, DependsOn, HasLostChecksum, HasNoChecksumFor, IsChecksum, IsChecksumConflict, IsChosen, IsClash, IsDependency, IsDependencyOf, IsOfSide, IsReplacement, IsReplacementConflict, checksum_if, if_same, replacement_if}
 use Rattle.cargo_lock_merge_core.specs.Commits.{IsSourceConflict, Lockfiles, git_in}
 use Rattle.lists.specs.Chains.{IsChain}
-use Rattle.cargo_lock_merge_core.specs.Merge.{ConflictData, HasReference, HaveAt, IsConflict, IsMerge, IsMergedPackage, IsReachedInMerge, IsRootOfMerge, LeadsToInMerge, OfChecksum, OfPackage, OfReplacement, OfSource, Triple, lockfiles_of}
+use Rattle.cargo_lock_merge_core.specs.Merge.{MatterData, HasReference, HaveAt, IsMatter, IsMerge, IsMergedPackage, IsReachedInMerge, IsRootOfMerge, LeadsToInMerge, OfChecksum, OfPackage, OfReplacement, OfSource, OfVersion, OfLostChecksum, Triple, lockfiles_of}
 use Rattle.cargo_lock_merge_core.specs.Placed.{HasAt, HasMember, HasOneAtEach, IsAt, PlacedData, contents_of}
-use Rattle.cargo_lock_merge_core.specs.Renaming.{Has, IsOneToOne, IsUsed, rename, rename_all, rename_conflict, rename_triple}
+use Rattle.cargo_lock_merge_core.specs.Renaming.{Has, IsOneToOne, IsUsed, rename, rename_all, rename_matter, rename_triple}
 use Rattle.cargo_lock_merge_core.specs.Rule3.{IsDisputed, IsKept, IsMergedValue}
+use Rattle.cargo_lock_merge_core.proofs.OnlyValue.{only-cast, two-cast}
 use Rattle.cargo_lock_merge_core.proofs.Once.{kept-iff}
-use Rattle.cargo_lock_merge_core.proofs.Renaming.{chosen-of, chosen-to, clash-same, key-same, side-of, side-to}
+use Rattle.cargo_lock_merge_core.proofs.Renaming.{chosen-of, chosen-to, clash-same, key-same, side-of, side-to, versions-to}
 
 contents-same : {P Q : Type 0} (f : P → Q) (xs : List (PlacedData P)) → contents_of (rename_all f xs) ≡ contents_of xs
 contents-same f [] = refl
@@ -126,8 +127,8 @@ module _ {P Q : Type 0} (f : P → Q) (s : Triple P) (inj : IsOneToOne s f) wher
 
   counts-iff : (b : Option (PlacedData P)) (x y : PlacedData P) → Counts b x y ↔ Counts (option_map (rename f) b) (rename f x) (rename f y)
   counts-iff b x y = (
-    λ h. elim h [ inl e ↦ inl e | inr e ↦ inr (key-same f b ∙ e) ],
-    λ h. elim h [ inl e ↦ inl e | inr e ↦ inr (sym (key-same f b) ∙ e) ],
+    λ h. elim h [ inl e ↦ inl e | inr more ↦ elim more [ inl e ↦ inr (inl (key-same f b ∙ e)) | inr none ↦ inr (inr none) ] ],
+    λ h. elim h [ inl e ↦ inl e | inr more ↦ elim more [ inl e ↦ inr (inl (sym (key-same f b) ∙ e)) | inr none ↦ inr (inr none) ] ],
   )
 
   dependency-iff : (b o t : Option (PlacedData P)) → IsOf s.base b → IsOf s.ours o → IsOf s.theirs t → (x : PlacedData P) (d : P) → IsUsed s d
@@ -202,18 +203,19 @@ module _ {P Q : Type 0} (f : P → Q) (s : Triple P) (inj : IsOneToOne s f) wher
   checksum-if-map None = refl
   checksum-if-map (Some x) = refl
 
-  checksum-map : (o : Option (PlacedData P)) → option_map (λ (y : PlacedData P). y.content.checksum) o ≡ option_map (λ (y : PlacedData Q). y.content.checksum) (option_map (rename f) o)
-  checksum-map None = refl
-  checksum-map (Some x) = refl
+  checksum-map : (x : PlacedData P) (o : Option (PlacedData P)) → checksum_if (if_same x o) ≡ checksum_if (if_same (rename f x) (option_map (rename f) o))
+  checksum-map x o = checksum-if-map (if_same x o) ∙ ap checksum_if (sym (if-same-map x o))
 
   checksum-to : (b o t : Option (PlacedData P)) (x : PlacedData P) (c : Option (List ℕ)) → IsChecksum b o t x c
       → IsChecksum (option_map (rename f) b) (option_map (rename f) o) (option_map (rename f) t) (rename f x) c
-  checksum-to b o t x c h =
-      let g = λ (y : PlacedData Q). y.content.checksum in
-      value-cast _ _ _ _ _ _ c
-      (checksum-if-map (if_same x b) ∙ ap checksum_if (sym (if-same-map x b)))
-      (checksum-map (if_same x o) ∙ ap (option_map g) (sym (if-same-map x o)))
-      (checksum-map (if_same x t) ∙ ap (option_map g) (sym (if-same-map x t))) h
+  checksum-to b o t x c h = only-cast _ _ _ _ _ _ c (checksum-map x b) (checksum-map x o) (checksum-map x t) h
+
+  lacks-to : (x : PlacedData P) (o : Option (PlacedData P)) → HasNoChecksumFor x o → HasNoChecksumFor (rename f x) (option_map (rename f) o)
+  lacks-to x o (y, is, none) = (rename f y, if-same-map x o ∙ ap (option_map (rename f)) is, none)
+
+  lost-to : (b o t : Option (PlacedData P)) (x : PlacedData P) → HasLostChecksum b o t x
+      → HasLostChecksum (option_map (rename f) b) (option_map (rename f) o) (option_map (rename f) t) (rename f x)
+  lost-to b o t x (c, is, lost) = (c, sym (checksum-map x b) ∙ is, elim lost [ inl h ↦ inl (lacks-to x o h) | inr h ↦ inr (lacks-to x t h) ])
 
   fo : Option P → Option Q
   fo = option_map f
@@ -499,12 +501,7 @@ module _ {P Q : Type 0} (f : P → Q) (s : Triple P) (inj : IsOneToOne s f) wher
 
   checksum-disputed : (b o t : Option (PlacedData P)) (x : PlacedData P) → IsChecksumConflict b o t x
       → IsChecksumConflict (option_map (rename f) b) (option_map (rename f) o) (option_map (rename f) t) (rename f x)
-  checksum-disputed b o t x h =
-      let g = λ (y : PlacedData Q). y.content.checksum in
-      disputed-cast _ _ _ _ _ _
-      (checksum-if-map (if_same x b) ∙ ap checksum_if (sym (if-same-map x b)))
-      (checksum-map (if_same x o) ∙ ap (option_map g) (sym (if-same-map x o)))
-      (checksum-map (if_same x t) ∙ ap (option_map g) (sym (if-same-map x t))) h
+  checksum-disputed b o t x h = two-cast _ _ _ _ _ _ (checksum-map x b) (checksum-map x o) (checksum-map x t) h
 
   disputed-map : (b : Option P) (o t : Option (Option P)) → IsUsedIf b → IsUsedBoth o → IsUsedBoth t → IsDisputed b o t → IsDisputed (option_map f b) (option_map (option_map f) o) (option_map (option_map f) t)
   unfolding IsUsedBoth
@@ -530,7 +527,7 @@ module _ {P Q : Type 0} (f : P → Q) (s : Triple P) (inj : IsOneToOne s f) wher
       (used-if s.base base-list x b ob) (used-both s.ours our-list x o oo) (used-both s.theirs their-list x t ot) h)
 
   -- a conflict is one at the renamed place
-  pub conflict-renamed : (c : ConflictData P) → IsConflict s c → IsConflict (rename_triple f s) (rename_conflict f c)
+  pub conflict-renamed : (c : MatterData P) → IsMatter s c → IsMatter (rename_triple f s) (rename_matter f c)
   conflict-renamed (OfPackage p) (r, (x, y, z, at, (clash, none))) = (
     reached-to p r,
     (
@@ -571,6 +568,32 @@ module _ {P Q : Type 0} (f : P → Q) (s : Triple P) (inj : IsOneToOne s f) wher
       subst (λ (all : Lockfiles). IsChosen all (option_map (rename f) x) (option_map (rename f) y) (option_map (rename f) z) (rename f c)) (sym (lockfiles-same f s))
           (chosen-to f (lockfiles_of s) x y z c chosen),
       replacement-disputed x y z (is-of s.base p x at.base) (is-of s.ours p y at.ours) (is-of s.theirs p z at.theirs) c dispute,
+    ),
+  )
+  conflict-renamed (OfVersion p) (r, (x, y, z, c, at, chosen, h)) = (
+    reached-to p r,
+    (
+      option_map (rename f) x,
+      option_map (rename f) y,
+      option_map (rename f) z,
+      rename f c,
+      have-to p (side-used p y z c at.ours at.theirs chosen.0) x y z at,
+      subst (λ (all : Lockfiles). IsChosen all (option_map (rename f) x) (option_map (rename f) y) (option_map (rename f) z) (rename f c)) (sym (lockfiles-same f s))
+          (chosen-to f (lockfiles_of s) x y z c chosen),
+      versions-to f x y z h,
+    ),
+  )
+  conflict-renamed (OfLostChecksum p) (r, (x, y, z, c, at, chosen, h)) = (
+    reached-to p r,
+    (
+      option_map (rename f) x,
+      option_map (rename f) y,
+      option_map (rename f) z,
+      rename f c,
+      have-to p (side-used p y z c at.ours at.theirs chosen.0) x y z at,
+      subst (λ (all : Lockfiles). IsChosen all (option_map (rename f) x) (option_map (rename f) y) (option_map (rename f) z) (rename f c)) (sym (lockfiles-same f s))
+          (chosen-to f (lockfiles_of s) x y z c chosen),
+      lost-to x y z c h,
     ),
   )
   conflict-renamed (OfSource g) ((p, r, (x, y, z, c, at, side, is)), dispute) = (

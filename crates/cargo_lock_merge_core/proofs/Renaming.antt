@@ -1,7 +1,7 @@
 -- A merge by places of one type is one by places of another, where the places are renamed one to one.
 use Rattle.std.proofs.Common.{◌≡◌, ◌↔◌, inl, inr, Option, Some, None, option_map, refl, sym, ap, subst, ◌∙◌}
 use Rattle.std.proofs.lemmas.Option.{same_Some}
-use Rattle.cargo_lock_merge_core.specs.Choices.{AreOfGit, IsByCommit, IsByRule, IsChosen, IsClash, IsOfGit, IsOfSide}
+use Rattle.cargo_lock_merge_core.specs.Choices.{AreOfGit, AreOfMember, HasTwoNewVersions, IsByCommit, IsByRule, IsChosen, IsClash, IsOfGit, IsOfSide, IsVersionDecisive}
 use Rattle.cargo_lock_merge_core.specs.Commits.{IsAtMergedCommit, Lockfiles}
 use Rattle.cargo_lock_merge_core.specs.Placed.{PlacedData, key, key_if}
 use Rattle.cargo_lock_merge_core.specs.Renaming.{rename}
@@ -42,17 +42,50 @@ module _ {P Q : Type 0} (f : P → Q) where
       λ h. record { this = h.this; others = λ y s a. h.others (rename f y) (side-to o t y s) a },
     )
 
+  member-to : (b o t : PlacedData P) → AreOfMember (Some b) o t → AreOfMember (Some (rename f b)) (rename f o) (rename f t)
+  member-to b o t h = record {
+    old = rename f b;
+    base = refl;
+    sourceless = subst (λ (z : PlacedData P). z.content.source ≡ None) (sym (same_Some b h.old h.base)) h.sourceless;
+    ours = h.ours;
+    theirs = h.theirs;
+  }
+
+  decisive-to : (b : Option (PlacedData P)) (o t : PlacedData P) → IsVersionDecisive b o t → IsVersionDecisive (option_map (rename f) b) (rename f o) (rename f t)
+  decisive-to None o t (inl h) = inl (record { ours = h.ours; theirs = h.theirs; above = h.above })
+  decisive-to None o t (inr h) = let e = h.base in absurd (cc e)
+  decisive-to (Some b) o t (inl h) = inl (record { ours = h.ours; theirs = h.theirs; above = h.above })
+  decisive-to (Some b) o t (inr h) = inr (member-to b o t h)
+
+  decisive-of : (b : Option (PlacedData P)) (o t : PlacedData P) → IsVersionDecisive (option_map (rename f) b) (rename f o) (rename f t) → IsVersionDecisive b o t
+  decisive-of None o t (inl h) = inl (record { ours = h.ours; theirs = h.theirs; above = h.above })
+  decisive-of None o t (inr h) = let e = h.base in absurd (cc e)
+  decisive-of (Some b) o t (inl h) = inl (record { ours = h.ours; theirs = h.theirs; above = h.above })
+  decisive-of (Some b) o t (inr h) = inr (record {
+    old = b;
+    base = refl;
+    sourceless = subst (λ (z : PlacedData Q). z.content.source ≡ None) (sym (same_Some (rename f b) h.old h.base)) h.sourceless;
+    ours = h.ours;
+    theirs = h.theirs;
+  })
+
+  pub versions-to : (b o t : Option (PlacedData P)) → HasTwoNewVersions b o t → HasTwoNewVersions (option_map (rename f) b) (option_map (rename f) o) (option_map (rename f) t)
+  versions-to b None t h = absurd h
+  versions-to b (Some o) None h = absurd h
+  versions-to None (Some o) (Some t) (are, changed) = let e = are.base in absurd (cc e)
+  versions-to (Some b) (Some o) (Some t) (are, changed) = (member-to b o t are, changed)
+
   rule-same : (b o t : Option (PlacedData P)) (x : PlacedData P) → IsByRule b o t x ↔ IsByRule (option_map (rename f) b) (option_map (rename f) o) (option_map (rename f) t) (rename f x)
   rule-same b None None x = (λ h. h, λ h. h)
   rule-same b (Some o) None x = (λ h. h, λ h. h)
   rule-same b None (Some t) x = (λ h. h, λ h. h)
   rule-same None (Some o) (Some t) x = (
-    λ h. elim h [ inl a ↦ inl a | inr v ↦ inr (record { changed = v.0.changed; ours = v.0.ours; theirs = v.0.theirs; above = v.0.above }, v.1) ],
-    λ h. elim h [ inl a ↦ inl a | inr v ↦ inr (record { changed = v.0.changed; ours = v.0.ours; theirs = v.0.theirs; above = v.0.above }, v.1) ],
+    λ h. elim h [ inl a ↦ inl a | inr v ↦ inr (record { changed = v.0.changed; decisive = decisive-to None o t v.0.decisive }, v.1) ],
+    λ h. elim h [ inl a ↦ inl a | inr v ↦ inr (record { changed = v.0.changed; decisive = decisive-of None o t v.0.decisive }, v.1) ],
   )
   rule-same (Some b) (Some o) (Some t) x = (
-    λ h. elim h [ inl a ↦ inl a | inr v ↦ inr (record { changed = v.0.changed; ours = v.0.ours; theirs = v.0.theirs; above = v.0.above }, v.1) ],
-    λ h. elim h [ inl a ↦ inl a | inr v ↦ inr (record { changed = v.0.changed; ours = v.0.ours; theirs = v.0.theirs; above = v.0.above }, v.1) ],
+    λ h. elim h [ inl a ↦ inl a | inr v ↦ inr (record { changed = v.0.changed; decisive = decisive-to (Some b) o t v.0.decisive }, v.1) ],
+    λ h. elim h [ inl a ↦ inl a | inr v ↦ inr (record { changed = v.0.changed; decisive = decisive-of (Some b) o t v.0.decisive }, v.1) ],
   )
 
   module _ (all : Lockfiles) (b o t : Option (PlacedData P)) where

@@ -3,15 +3,16 @@ use Rattle.std.proofs.Common.{◌≡◌, ◌⊎◌, ◌++◌, inl, inr, List, []
 use Rattle.std.specs.List.{Contains}
 use Rattle.cargo_lock_parts.specs.Identity.{PackageData, identity_key}
 use Rattle.lists.proofs.Searches.{chain-on}
-use Rattle.cargo_lock_merge_core.specs.Choices.{AreAbove, AreOfGit, DependsOn, IsByRule, IsChosen, IsClash, IsDependencyOf, IsOfSide}
+use Rattle.cargo_lock_merge_core.specs.Choices.{AreAbove, AreOfGit, DependsOn, HasTwoNewVersions, IsByRule, IsChosen, IsClash, IsDependencyOf, IsOfSide, IsVersionDecisive}
 use Rattle.cargo_lock_merge_core.specs.Commits.{IsAtMergedCommit, Lockfiles}
 use Rattle.lists.specs.Chains.{IsChain}
 use Rattle.cargo_lock_merge_core.specs.Merge.{HaveAt, IsMerge, IsMergedPackage, IsReachedInMerge, LeadsToInMerge, Triple, lockfiles_of}
 use Rattle.cargo_lock_merge_core.specs.Placed.{HasAt, IsAt, PlacedData, key, key_if}
 use Rattle.cargo_lock_merge_core.specs.Rule3.{IsAgreed, IsDisputed, IsInConflict, IsKept, IsMergedValue}
-use Rattle.cargo_lock_merge_core.specs.Merge.{ConflictData, OfPackage, OfChecksum, OfReplacement, OfSource, IsConflict, IsMovedReference}
+use Rattle.cargo_lock_merge_core.specs.Merge.{MatterData, OfPackage, OfChecksum, OfReplacement, OfSource, OfVersion, OfLostChecksum, IsMatter, IsMovedReference}
 use Rattle.cargo_lock_merge_core.specs.Commits.{IsSourceConflict}
 use Rattle.cargo_lock_parts.specs.SourceKey.{Key}
+use Rattle.cargo_lock_merge_core.proofs.OnlyValue.{only-flip, two-flip}
 
 agreed-flip : {X : Type 0} (b o t x : X) → IsAgreed b o t x → IsAgreed b t o x
 agreed-flip b o t x (inl h) = inl (sym h.0, h.1 ∙ h.0)
@@ -65,6 +66,19 @@ module _ {P : Type 0} where
   above-flip None o t h = h
   above-flip (Some b) o t h = (h.1, h.0)
 
+  decisive-flip : (b : Option (PlacedData P)) (o t : PlacedData P) → IsVersionDecisive b o t → IsVersionDecisive b t o
+  decisive-flip b o t (inl h) = inl (record { ours = h.theirs; theirs = h.ours; above = above-flip b o t h.above })
+  decisive-flip b o t (inr h) = inr (record { old = h.old; base = h.base; sourceless = h.sourceless; ours = h.theirs; theirs = h.ours })
+
+  versions-flip : (b o t : Option (PlacedData P)) → HasTwoNewVersions b o t → HasTwoNewVersions b t o
+  versions-flip b None None h = h
+  versions-flip b (Some o) None h = absurd h
+  versions-flip b None (Some t) h = absurd h
+  versions-flip b (Some o) (Some t) (are, changed) = (
+    record { old = are.old; base = are.base; sourceless = are.sourceless; ours = are.theirs; theirs = are.ours },
+    conflict-flip (key_if b) (Some (key o)) (Some (key t)) changed,
+  )
+
   rule-flip : (b o t : Option (PlacedData P)) (x : PlacedData P) → IsByRule b o t x → IsByRule b t o x
   rule-flip b None None x h = h
   rule-flip b (Some o) None x h = h
@@ -73,9 +87,7 @@ module _ {P : Type 0} where
   rule-flip b (Some o) (Some t) x (inr h) = inr (
     record {
       changed = conflict-flip (key_if b) (Some (key o)) (Some (key t)) h.0.changed;
-      ours = h.0.theirs;
-      theirs = h.0.ours;
-      above = above-flip b o t h.0.above;
+      decisive = decisive-flip b o t h.0.decisive;
     },
     or-flip h.1,
   )
@@ -149,7 +161,7 @@ module _ {P : Type 0} where
       at = at-flip s m.place x y z h.at;
       chosen = chosen-flip (lockfiles_of s) x y z c h.chosen;
       identity = h.identity;
-      checksum = value-flip _ _ _ m.content.checksum h.checksum;
+      checksum = only-flip _ _ _ m.content.checksum h.checksum;
       dependencies = λ d. (λ k. depends-flip x y z c d ((h.dependencies d).0 k), λ k. (h.dependencies d).1 (depends-flip x z y c d k));
       replacement = value-flip _ _ _ m.replacement h.replacement;
     },
@@ -222,14 +234,18 @@ unfolding turn
 source-back all g (x, y, z, are, d) = (x, z, y, record { base = are.base; ours = are.theirs; theirs = are.ours }, disputed-flip x (option_map Some y) (option_map Some z) d)
 
 module _ {P : Type 0} where
-  pub conflict-turned : (s : Triple P) (c : ConflictData P) → IsConflict s c → IsConflict (record { base = s.base; ours = s.theirs; theirs = s.ours }) c
+  pub conflict-turned : (s : Triple P) (c : MatterData P) → IsMatter s c → IsMatter (record { base = s.base; ours = s.theirs; theirs = s.ours }) c
   unfolding flipped turn
   conflict-turned s (OfPackage p) (reached, (x, y, z, at, (clash, none))) =
       (reached-flip s p reached, (x, z, y, at-flip s p x y z at, (clash-flip (lockfiles_of s) x y z clash, λ w g side is k. none w g (or-flip side) is (source-back (lockfiles_of s) g k))))
   conflict-turned s (OfChecksum p) (reached, (x, y, z, c, at, chosen, d)) =
-      (reached-flip s p reached, (x, z, y, c, at-flip s p x y z at, chosen-flip (lockfiles_of s) x y z c chosen, disputed-flip _ _ _ d))
+      (reached-flip s p reached, (x, z, y, c, at-flip s p x y z at, chosen-flip (lockfiles_of s) x y z c chosen, two-flip _ _ _ d))
   conflict-turned s (OfReplacement p) (reached, (x, y, z, c, at, chosen, d)) =
       (reached-flip s p reached, (x, z, y, c, at-flip s p x y z at, chosen-flip (lockfiles_of s) x y z c chosen, disputed-flip _ _ _ d))
+  conflict-turned s (OfVersion p) (reached, (x, y, z, c, at, chosen, h)) =
+      (reached-flip s p reached, (x, z, y, c, at-flip s p x y z at, chosen-flip (lockfiles_of s) x y z c chosen, versions-flip x y z h))
+  conflict-turned s (OfLostChecksum p) (reached, (x, y, z, c, at, chosen, h)) =
+      (reached-flip s p reached, (x, z, y, c, at-flip s p x y z at, chosen-flip (lockfiles_of s) x y z c chosen, (h.0, h.1, or-flip h.2)))
   conflict-turned s (OfSource g) ((p, reached, (x, y, z, c, at, side, is)), d) =
       ((p, reached-flip s p reached, (x, z, y, c, at-flip s p x y z at, or-flip side, is)), source-flip (lockfiles_of s) g d)
 

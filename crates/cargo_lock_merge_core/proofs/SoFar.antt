@@ -5,13 +5,14 @@ use Rattle.std.specs.List.Sorted.{IsStrictlyIncreasing}
 use Rattle.std.proofs.lemmas.List.{get_or-map, length-map}
 use Rattle.std.proofs.lemmas.List.Elements.{All-nil, All-push, All-contains}
 use Rattle.std.proofs.lemmas.Option.{get_or_from_slice_get, slice_get-get_or, slice_get_within}
+use Rattle.cargo_lock_parts.specs.Checksum.{digest_of}
 use Rattle.cargo_lock_parts.specs.Identity.{identity_of}
 use Rattle.lists.proofs.Members.{in-map, map-in}
 use Rattle.cargo_lock_merge_core.specs.declared.entry.Chosen.{Chosen}
 use Rattle.cargo_lock_merge_core.specs.declared.entry.Entry.{Entry}
 use Rattle.cargo_lock_merge_core.specs.declared.merged.Merged.{Merged}
 use Rattle.cargo_lock_merge_core.specs.declared.plan.Plan.{Plan}
-use Rattle.cargo_lock_merge_core.specs.Choices.{IsDependencyOf, checksum_if, if_same, replacement_if}
+use Rattle.cargo_lock_merge_core.specs.Choices.{IsDependencyOf, if_same, replacement_if}
 use Rattle.cargo_lock_merge_core.specs.Entries.{IsDependencyIf, IsMergeEntry, IsSettled}
 use Rattle.cargo_lock_merge_core.specs.Kept.{AreInPlace, AreSoFar, IsMarkedPlace, IsOfEntry, merged_places}
 use Rattle.cargo_lock_merge_core.specs.Merge.{HaveAt, IsMerge, IsMergedFrom, IsMergedPackage, IsReachedInMerge, Triple, lockfiles_of}
@@ -27,6 +28,7 @@ use Rattle.cargo_lock_merge_core.proofs.Indexing.{at-once}
 use Rattle.cargo_lock_merge_core.proofs.Kept.{AreKept, kept-end, kept-pass, kept-push, kept-start}
 use Rattle.cargo_lock_merge_core.proofs.Landing.{one-each, reached-there}
 use Rattle.cargo_lock_merge_core.proofs.Once.{at-same, checksum-alike, chosen-once, replacement-alike}
+use Rattle.cargo_lock_merge_core.proofs.OnlyValue.{only-apart}
 use Rattle.cargo_lock_merge_core.proofs.Planning.{map-push}
 
 to-kept : (plan : Plan) (i : ℕ) (ms : List Merged) → AreSoFar plan i ms → AreKept (IsMarkedPlace plan) (entry_places plan.entries.items) i (merged_places ms)
@@ -174,9 +176,8 @@ module _ (s : Triple ℕ) (plan : Plan) (h : HasPlan s plan) where
       let z = data_if e.row.theirs in
       let same = chosen-once (lockfiles_of s) x y z c (placed_data d.«package») f.chosen chosen in
       let v = checksum-alike c (placed_data d.«package») same x y z m.content.checksum f.checksum in
-      let conflict = subst (λ w. IsChecksumChoice x y z (placed_data d.«package») w) u values.checksum in
-      value-apart (checksum_if (if_same (placed_data d.«package») x)) (option_map (λ (w : PlacedData ℕ). w.content.checksum) (if_same (placed_data d.«package») y))
-      (option_map (λ (w : PlacedData ℕ). w.content.checksum) (if_same (placed_data d.«package») z)) m.content.checksum v conflict
+      let conflict = subst (λ w. IsChecksumChoice x y z (placed_data d.«package») (option_map (option_map digest_of) w)) u values.checksum in
+      only-apart _ _ _ m.content.checksum v conflict
   unsettled e m c (Some d) (chosen, values) (inr u) f =
       let x = data_if e.row.base in
       let y = data_if e.row.ours in

@@ -10,7 +10,7 @@ use Rattle.cargo_lock_edges.specs.Nearest.{key_without_commit}
 use Rattle.cargo_lock_merge_core.specs.Commits.{HasOneCommitEach, IsMergedCommit, Lockfiles, commit_in, git_in}
 use Rattle.cargo_lock_merge_core.specs.Laws.{HaveOneAtEach}
 use Rattle.cargo_lock_merge_core.specs.LawsOfMerges.{AreLockfiles, HasNoOrphan, HaveOneCommitEach, IsLockfile, IsSoundByPlaces}
-use Rattle.cargo_lock_merge_core.specs.Merge.{ConflictData, IsConflict, IsMerge, IsRootOfMerge, OfChecksum, OfPackage, OfReplacement, OfSource, Triple, lockfiles_of}
+use Rattle.cargo_lock_merge_core.specs.Merge.{MatterData, IsMatter, IsMerge, IsRootOfMerge, OfChecksum, OfPackage, OfReplacement, OfSource, OfVersion, OfLostChecksum, IsConflicting, Triple, lockfiles_of}
 use Rattle.cargo_lock_merge_core.specs.Placed.{HasMember, PlacedData, contents_of}
 use Rattle.cargo_lock_merge_core.specs.Places.{ArePlaced, IsMergeOf, Place}
 use Rattle.cargo_lock_merge_core.specs.Rule3.{IsMergedValue}
@@ -99,7 +99,7 @@ module _ (s : Triple Place) (are : AreLockfiles s) (m : List (PlacedData Place))
 
   -- ---- no conflict
 
-  no-source : (g : Key) → ¬ IsConflict s (OfSource g)
+  no-source : (g : Key) → ¬ IsMatter s (OfSource g)
   no-source g ((p, reached, (x, y, z, c, at, side, is)), (b, o, t, commits, disputed)) =
       let (n, there) = (h.holds p).1 reached in
       let same : bare_source n.content ≡ bare_source c.content = elim (side-at s p x y z c at side) [
@@ -111,11 +111,13 @@ module _ (s : Triple Place) (are : AreLockfiles s) (m : List (PlacedData Place))
       (commits-same (lockfiles_of s) (each-commit s are) g b' o' t' b o t commits' commits
       (λ x y z. IsMergedValue x (option_map Some y) (option_map Some z) (Some (commit_in n.content.source))) v) disputed
 
-  pub no-conflict : (c : ConflictData Place) → ¬ IsConflict s c
-  no-conflict (OfPackage p) = no-package s are.base.one are.ours.one are.theirs.one m p h
-  no-conflict (OfChecksum p) = no-checksum s are.base.one are.ours.one are.theirs.one m p h
-  no-conflict (OfReplacement p) = no-replacement s are.base.one are.ours.one are.theirs.one m p h
-  no-conflict (OfSource g) = no-source g
+  pub no-conflict : (c : MatterData Place) → IsConflicting c → ¬ IsMatter s c
+  no-conflict (OfPackage p) k = no-package s are.base.one are.ours.one are.theirs.one m p h
+  no-conflict (OfChecksum p) k = no-checksum s are.base.one are.ours.one are.theirs.one m p h
+  no-conflict (OfReplacement p) k = no-replacement s are.base.one are.ours.one are.theirs.one m p h
+  no-conflict (OfSource g) k = no-source g
+  no-conflict (OfVersion p) k = absurd k
+  no-conflict (OfLostChecksum p) k = absurd k
 
 -- ---- lists of packages
 

@@ -9,7 +9,7 @@ use Rattle.cargo_lock_parts.specs.Source.{Kind, Source, is_registry}
 use Rattle.cargo_lock_parts.specs.SourceKey.{Key, key_of}
 use Rattle.semver.specs.Parse.{Parts}
 use Rattle.std.specs.declared.cmp.Ordering.TheVariants.{Less}
-use Rattle.cargo_lock_merge_core.specs.Choices.{AreAbove, AreOfGit, Counts, HasLowerVersion, IsByRule, IsChosen, IsDependencyOf, IsOfRegistry, IsOfSide, checksum_if, if_same, replacement_if}
+use Rattle.cargo_lock_merge_core.specs.Choices.{AreAbove, AreOfGit, Counts, HasLowerVersion, IsByRule, IsChecksum, IsChosen, IsDependencyOf, IsOfRegistry, IsOfSide, IsSourceless, IsVersionDecisive, checksum_if, if_same, replacement_if}
 use Rattle.cargo_lock_merge_core.specs.Commits.{IsAtMergedCommit, IsMergedCommit, commit_in, git_in}
 use Rattle.cargo_lock_merge_core.specs.LawsOfMerges.{AreLockfiles, IsTheMerge, triple}
 use Rattle.cargo_lock_merge_core.specs.Merge.{IsMerge, IsMergedFrom, IsMergedPackage, IsRootOfMerge, Triple, lockfiles_of}
@@ -23,7 +23,8 @@ use Rattle.lists.proofs.Members.{in-map}
 use Rattle.cargo_lock_merge_core.proofs.Sides.{merge-flip}
 use Rattle.cargo_lock_merge_core.proofs.Sourced.{bare-at, commit-once, git-same}
 use Rattle.cargo_lock_merge_core.proofs.Soundness.{each-commit, each-one, merge-sound, merged-sources, root-member}
-use Rattle.cargo_lock_merge_core.proofs.Unchanged.{itself, the-merge}
+use Rattle.cargo_lock_merge_core.proofs.OnlyValue.{only-again, only-cast}
+use Rattle.cargo_lock_merge_core.proofs.Unchanged.{itself, option-cases, the-merge}
 
 -- ---- the rule of three
 
@@ -45,6 +46,12 @@ value-of f old o t z h =
     subst (λ (w : Option (PlacedData Place)). IsMergedValue old (option_map f w) (option_map f (if_same z t)) (f z)) (sym (itself z))
     (value-again old (option_map f (if_same z o)) (option_map f (if_same z t)) (f z) h)
 
+-- the checksum of the merged package is the only one again
+checksum-of : (b o t : Option (PlacedData Place)) (z : PlacedData Place) → IsChecksum b o t z z.content.checksum → IsChecksum b (Some z) t z z.content.checksum
+checksum-of b o t z h =
+    only-cast _ _ _ _ _ _ z.content.checksum refl (ap checksum_if (sym (itself z))) refl
+    (only-again (checksum_if (if_same z b)) (checksum_if (if_same z o)) (checksum_if (if_same z t)) z.content.checksum h)
+
 -- ---- what a key says
 
 module _ (x y : PlacedData Place) (e : key x ≡ key y) where
@@ -61,6 +68,17 @@ module _ (x y : PlacedData Place) (e : key x ≡ key y) where
   above-same : (b : Option (PlacedData Place)) (t : PlacedData Place) → AreAbove b x t → AreAbove b y t
   above-same None t h = tt
   above-same (Some b) t h = (subst (λ (v : Parts). version_cmp b.content.version v ≡ Less) version-same h.0, h.1)
+
+  sourceless-same : IsSourceless x → IsSourceless y
+  sourceless-same none = by y.content.source (ap (option_map key_of) (sym none) ∙ ap (λ (k : IdentityKey). k.source) e)
+    where
+      by : (o : Option Source) → None ≡ option_map key_of o → o ≡ None
+      by None k = refl
+      by (Some r) k = absurd (cc k)
+
+  decisive-same : (b : Option (PlacedData Place)) (t : PlacedData Place) → IsVersionDecisive b x t → IsVersionDecisive b y t
+  decisive-same b t (inl h) = inl (record { ours = registry-same h.ours; theirs = h.theirs; above = above-same b t h.above })
+  decisive-same b t (inr h) = inr (record { old = h.old; base = h.base; sourceless = h.sourceless; ours = sourceless-same h.ours; theirs = h.theirs })
 
   below-same : (t : PlacedData Place) → HasLowerVersion t x → HasLowerVersion t y
   below-same t h = subst (λ (v : Parts). version_cmp t.content.version v ≡ Less) version-same h
@@ -80,9 +98,7 @@ rule-again b (Some o) (Some t) c z e side (inr (v, inl h)) =
     inr (
       record {
         changed = subst (λ (k : IdentityKey). IsInConflict (key_if b) (Some k) (Some (key t))) same v.changed;
-        ours = registry-same o z same v.ours;
-        theirs = v.theirs;
-        above = above-same o z same b t v.above;
+        decisive = decisive-same o z same b t v.decisive;
       },
       inl (below-same o z same t h.0, refl),
     )
@@ -93,16 +109,25 @@ side-counts : (b : Option (PlacedData Place)) (o t c : PlacedData Place) → IsO
 side-counts b o t c (inl is) none = absurd (none (inl (ap (λ (w : PlacedData Place). key w) (same_Some o c is))))
 side-counts b o t c (inr is) none = ap (λ (w : PlacedData Place). key w) (same_Some t c is)
 
-counts-cases : (b : Option (PlacedData Place)) (x y : PlacedData Place) → Counts b x y ⊎ (¬ Counts b x y)
-counts-cases None x y = elim (key-cases y x) [
-  | inl e ↦ inl (inl e)
-  | inr n ↦ inr (λ h. elim h [ inl e ↦ n e | inr k ↦ absurd (cc k) ])
+base-cases : (b : Option (PlacedData Place)) (y : PlacedData Place) → (key_if b ≡ Some (key y)) ⊎ (¬ (key_if b ≡ Some (key y)))
+base-cases None y = inr (λ k. absurd (cc k))
+base-cases (Some b) y = elim (key-cases b y) [ inl k ↦ inl (ap Some k) | inr other ↦ inr (λ k. other (same_Some (key b) (key y) k)) ]
+
+sourceless-cases : (y : PlacedData Place) → IsSourceless y ⊎ (¬ IsSourceless y)
+sourceless-cases y = elim (option-cases y.content.source) [
+  | inl none ↦ inl none
+  | inr some ↦ inr (λ none. let k = sym none ∙ some.1 in absurd (cc k))
 ]
-counts-cases (Some b) x y = elim (key-cases y x) [
+
+counts-cases : (b : Option (PlacedData Place)) (x y : PlacedData Place) → Counts b x y ⊎ (¬ Counts b x y)
+counts-cases b x y = elim (key-cases y x) [
   | inl e ↦ inl (inl e)
-  | inr n ↦ elim (key-cases b y) [
-    | inl k ↦ inl (inr (ap Some k))
-    | inr other ↦ inr (λ h. elim h [ inl e ↦ n e | inr k ↦ other (same_Some (key b) (key y) k) ])
+  | inr n ↦ elim (base-cases b y) [
+    | inl k ↦ inl (inr (inl k))
+    | inr other ↦ elim (sourceless-cases y) [
+      | inl none ↦ inl (inr (inr none))
+      | inr sourced ↦ inr (λ h. elim h [ inl e ↦ n e | inr more ↦ elim more [ inl k ↦ other k | inr none ↦ sourced none ] ])
+    ]
   ]
 ]
 
@@ -205,7 +230,7 @@ module _ (s : Triple Place) (are : AreLockfiles s) (m : List (PlacedData Place))
       at = record { base = from.at.base; ours = (among, refl); theirs = from.at.theirs };
       chosen = chosen-again;
       identity = refl;
-      checksum = value-of (λ x. x.content.checksum) (checksum_if (if_same z b)) o t z (checksum-alike c z (sym same-key) b o t z.content.checksum from.checksum);
+      checksum = checksum-of b o t z (checksum-alike c z (sym same-key) b o t z.content.checksum from.checksum);
       dependencies = λ d. depends-again b o t c z d same-key from.chosen.0 (from.dependencies d);
       replacement = value-of (λ x. x.replacement) (replacement_if (if_same z b)) o t z (replacement-alike c z (sym same-key) b o t z.replacement from.replacement);
     }

@@ -4,12 +4,13 @@ use Rattle.std.specs.List.{Contains}
 use Rattle.std.proofs.lemmas.Bool.{cases_order}
 use Rattle.std.proofs.lemmas.List.{get_or_default}
 use Rattle.std.proofs.lemmas.Option.{same_Some}
-use Rattle.cargo_lock_merge_core.specs.Choices.{DependsOn, IsOfSide, checksum_if, if_same, replacement_if}
-use Rattle.cargo_lock_merge_core.specs.Merge.{OfPackage, OfChecksum, OfReplacement, HaveAt, IsConflict, IsMerge, IsMergedFrom, IsMergedPackage, Triple, lockfiles_of}
+use Rattle.cargo_lock_merge_core.specs.Choices.{DependsOn, IsOfSide, if_same, replacement_if}
+use Rattle.cargo_lock_merge_core.specs.Merge.{OfPackage, OfChecksum, OfReplacement, HaveAt, IsMatter, IsMerge, IsMergedFrom, IsMergedPackage, Triple, lockfiles_of}
 use Rattle.cargo_lock_merge_core.specs.Placed.{HasAt, HasOneAtEach, IsAt, PlacedData, key}
 use Rattle.cargo_lock_merge_core.specs.Rule3.{IsDisputed, IsKept, IsMergedValue}
 use Rattle.cargo_lock_merge_core.proofs.Agreeing.{agreed-apart}
 use Rattle.cargo_lock_merge_core.proofs.Once.{checksum-alike, chosen-once, replacement-alike}
+use Rattle.cargo_lock_merge_core.proofs.OnlyValue.{only-apart}
 
 pub value-apart : {X : Type 0} (b : X) (o t : Option X) (v : X) → IsMergedValue b o t v → ¬ IsDisputed b o t
 value-apart b None None v k d = d
@@ -56,19 +57,18 @@ module _ {P : Type 0} where
         → (m : PlacedData P) × (c : PlacedData P) × IsMergedFrom s x y z c m
     merged-at ms p x y z h at (n, there) = let k = from-at p n x y z there.1 at (h.each n there.0) in (n, k.0, k.1)
 
-    pub no-package : (ms : List (PlacedData P)) (p : P) → IsMerge s ms → ¬ IsConflict s (OfPackage p)
+    pub no-package : (ms : List (PlacedData P)) (p : P) → IsMerge s ms → ¬ IsMatter s (OfPackage p)
     no-package ms p h (reached, (x, y, z, at, clash)) =
         let k = merged-at ms p x y z h at ((h.holds p).1 reached) in
         clash.0.none k.1 k.2.chosen
 
-    pub no-checksum : (ms : List (PlacedData P)) (p : P) → IsMerge s ms → ¬ IsConflict s (OfChecksum p)
+    pub no-checksum : (ms : List (PlacedData P)) (p : P) → IsMerge s ms → ¬ IsMatter s (OfChecksum p)
     no-checksum ms p h (reached, (x, y, z, c, at, chosen, conflict)) =
         let k = merged-at ms p x y z h at ((h.holds p).1 reached) in
         let same = chosen-once (lockfiles_of s) x y z k.1 c k.2.chosen chosen in
-        value-apart (checksum_if (if_same c x)) (option_map (λ (w : PlacedData P). w.content.checksum) (if_same c y)) (option_map (λ (w : PlacedData P). w.content.checksum) (if_same c z))
-        k.0.content.checksum (checksum-alike k.1 c same x y z k.0.content.checksum k.2.checksum) conflict
+        only-apart _ _ _ k.0.content.checksum (checksum-alike k.1 c same x y z k.0.content.checksum k.2.checksum) conflict
 
-    pub no-replacement : (ms : List (PlacedData P)) (p : P) → IsMerge s ms → ¬ IsConflict s (OfReplacement p)
+    pub no-replacement : (ms : List (PlacedData P)) (p : P) → IsMerge s ms → ¬ IsMatter s (OfReplacement p)
     no-replacement ms p h (reached, (x, y, z, c, at, chosen, conflict)) =
         let k = merged-at ms p x y z h at ((h.holds p).1 reached) in
         let same = chosen-once (lockfiles_of s) x y z k.1 c k.2.chosen chosen in

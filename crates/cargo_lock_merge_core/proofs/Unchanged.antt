@@ -1,13 +1,15 @@
 -- A side without changes leaves the other, and equal sides leave both.
 use Rattle.std.proofs.Common.{◌≡◌, ◌⊎◌, ◌↔◌, inl, inr, ℕ, Bool, cond, List, Option, Some, None, option_map, refl, sym, ap, subst, ◌∙◌}
 use Rattle.std.specs.List.{Contains}
+use Rattle.std.proofs.lemmas.Bool.{cases_Bool}
 use Rattle.std.proofs.lemmas.Option.{same_Some}
-use Rattle.cargo_lock_parts.specs.Identity.{identity_of}
+use Rattle.cargo_lock_parts.specs.Identity.{identity_key, identity_of}
 use Rattle.cargo_lock_parts.specs.IdentityLaws.{is_same_identity-Decides}
+use Rattle.cargo_lock_parts.specs.IdentityOrder.{is_same_identity}
 use Rattle.cargo_lock_parts.specs.SourceKey.{Key}
-use Rattle.cargo_lock_merge_core.specs.Choices.{IsByRule, IsChosen, IsDependencyOf, IsOfSide, checksum_if, if_same, replacement_if}
+use Rattle.cargo_lock_merge_core.specs.Choices.{IsByRule, IsChecksum, IsChosen, IsDependencyOf, IsOfSide, checksum_if, if_same, replacement_if}
 use Rattle.cargo_lock_merge_core.specs.Commits.{HasCommit, IsAtMergedCommit, Lockfiles, IsMergedCommit, commit_in, git_in}
-use Rattle.cargo_lock_merge_core.specs.LawsOfMerges.{AgreeAtCommits, AreLockfiles, IsLockfile, IsSoundByPlaces, IsTheMerge, triple}
+use Rattle.cargo_lock_merge_core.specs.LawsOfMerges.{AgreeAtCommits, AreLockfiles, IsLockfile, IsSoundByPlaces, IsTheMerge, KeepChecksums, triple}
 use Rattle.cargo_lock_merge_core.specs.Merge.{IsMerge, IsMergedPackage, Triple, lockfiles_of}
 use Rattle.cargo_lock_merge_core.specs.Placed.{HasMember, HasOneAtEach, IsAt, PlacedData, contents_of, key}
 use Rattle.cargo_lock_merge_core.specs.Places.{Place}
@@ -15,6 +17,7 @@ use Rattle.cargo_lock_merge_core.specs.Rule3.{IsKept, IsMergedValue}
 use Rattle.cargo_lock_merge_core.proofs.Alike.{merge-once}
 use Rattle.cargo_lock_merge_core.proofs.Deciding.{at-cases, at-option, commit-option, contains-cases}
 use Rattle.cargo_lock_merge_core.proofs.Leading.{IsWhole, whole-merge}
+use Rattle.cargo_lock_merge_core.proofs.OnlyValue.{Keeps, only-base, only-both, only-cast, only-keeps}
 use Rattle.lists.proofs.Members.{in-map}
 use Rattle.cargo_lock_merge_core.proofs.Sides.{merge-flip}
 use Rattle.cargo_lock_merge_core.proofs.Sourced.{bare-at, commit-once, git-same}
@@ -63,12 +66,40 @@ module _ {X : Type 0} (f : PlacedData Place → X) (old : X) (x : PlacedData Pla
   value-both : IsMergedValue old (option_map f (if_same x (Some x))) (option_map f (if_same x (Some x))) (f x)
   value-both = subst (λ (w : Option (PlacedData Place)). IsMergedValue old (option_map f w) (option_map f w) (f x)) (sym (itself x)) (inl (refl, refl))
 
+-- ---- checksums
+
+checksum-base : (o : Option (PlacedData Place)) (x : PlacedData Place) → Keeps (checksum_if (if_same x o)) x.content.checksum → IsChecksum o (Some x) o x x.content.checksum
+checksum-base o x keeps = only-cast _ _ _ _ _ _ x.content.checksum refl (ap checksum_if (sym (itself x))) refl (only-base (checksum_if (if_same x o)) x.content.checksum keeps)
+
+checksum-both : (o : Option (PlacedData Place)) (x : PlacedData Place) → Keeps (checksum_if (if_same x o)) x.content.checksum → IsChecksum o (Some x) (Some x) x x.content.checksum
+checksum-both o x keeps =
+    only-cast _ _ _ _ _ _ x.content.checksum refl (ap checksum_if (sym (itself x))) (ap checksum_if (sym (itself x))) (only-both (checksum_if (if_same x o)) x.content.checksum keeps)
+
+-- a checksum of what has the identity of x is that of a package with it
+pub checksum-from : (x : PlacedData Place) (o : Option (PlacedData Place)) (c : List ℕ) → checksum_if (if_same x o) ≡ Some c
+    → (y : PlacedData Place) × (o ≡ Some y) × (key y ≡ key x) × (y.content.checksum ≡ Some c)
+checksum-from x None c e = absurd (cc e)
+checksum-from x (Some y) c e = elim (cases_Bool (is_same_identity (identity_of y.content) (identity_of x.content))) [
+  | inl same ↦ (y, refl, (is_same_identity-Decides (identity_of y.content) (identity_of x.content)).0 same, ap (λ (b : Bool). checksum_if (cond b (Some y) None)) (sym same) ∙ e)
+  | inr other ↦ let none : None ≡ Some c = ap (λ (b : Bool). checksum_if (cond b (Some y) None)) (sym other) ∙ e in absurd (cc none)
+]
+
+-- and the other way round
+pub checksum-to : (x y : PlacedData Place) (c : List ℕ) → key y ≡ key x → y.content.checksum ≡ Some c → checksum_if (if_same x (Some y)) ≡ Some c
+checksum-to x y c same is = ap (λ (b : Bool). checksum_if (cond b (Some y) None)) ((is_same_identity-Decides (identity_of y.content) (identity_of x.content)).1 same) ∙ is
+
+kept-in : (b x : List (PlacedData Place)) → KeepChecksums b x → (y : PlacedData Place) → Contains x y → (o : Option (PlacedData Place)) → IsAt b y.place o
+    → Keeps (checksum_if (if_same y o)) y.content.checksum
+kept-in b x keeps y among o at c e =
+    let (w, is, same, checksum) = checksum-from y o c e in
+    keeps y.place w y (subst (IsAt b y.place) is at) (among, refl) same c checksum
+
 -- ---- a place
 
 depends-base : (b : Option (PlacedData Place)) (x : PlacedData Place) (d : Place) → Contains x.dependencies d ↔ IsDependencyOf b (Some x) b x d
 depends-base None x d = (λ h. inl h, λ h. elim h [ inl k ↦ k | inr none ↦ absurd none ])
 depends-base (Some y) x d = (
-  λ h. inl (inl refl, inr refl, kept-from (contains-cases y.dependencies d) h),
+  λ h. inl (inl refl, inr (inl refl), kept-from (contains-cases y.dependencies d) h),
   λ h. elim h [
     | inl k ↦ kept-other k.2
     | inr more ↦ elim more [ inl n ↦ absurd (n.0 (inl refl)) | inr n ↦ n.1 ]
@@ -88,7 +119,7 @@ rule-base : (b : Option (PlacedData Place)) (x : PlacedData Place) → IsByRule 
 rule-base None x = tt
 rule-base (Some y) x = inl (inr (inr (refl, refl)))
 
-option-cases : {X : Type 0} (o : Option X) → (o ≡ None) ⊎ ((x : X) × (o ≡ Some x))
+pub option-cases : {X : Type 0} (o : Option X) → (o ≡ None) ⊎ ((x : X) × (o ≡ Some x))
 option-cases None = inl refl
 option-cases (Some x) = inr (x, refl)
 
@@ -110,7 +141,7 @@ module _ (b x : List (PlacedData Place)) (base : IsLockfile b) (side : IsSoundBy
   with-base : AreLockfiles (triple b x b)
   with-base = record { base = base; ours = side.lockfile; theirs = base }
 
-  module _ (agree : AgreeAtCommits b x) (y : PlacedData Place) (among : Contains x y) (o : Option (PlacedData Place)) (at : IsAt b y.place o) where
+  module _ (agree : AgreeAtCommits b x) (keeps : KeepChecksums b x) (y : PlacedData Place) (among : Contains x y) (o : Option (PlacedData Place)) (at : IsAt b y.place o) where
     same-git : (w : PlacedData Place) → o ≡ Some w → git_in w.content.source ≡ git_in y.content.source
     same-git w e = git-same w.content y.content
         (bare-at b x base.sources side.lockfile.sources y.place w y (subst (IsAt b y.place) e at) (among, refl))
@@ -157,28 +188,28 @@ module _ (b x : List (PlacedData Place)) (base : IsLockfile b) (side : IsSoundBy
         at = record { base = at; ours = (among, refl); theirs = at };
         chosen = chosen-base;
         identity = refl;
-        checksum = value-base (λ z. z.content.checksum) (checksum_if (if_same y o)) y (if_same y o) (λ w e. ap checksum_if e);
+        checksum = checksum-base o y (kept-in b x keeps y among o at);
         dependencies = λ d. depends-base o y d;
         replacement = value-base (λ z. z.replacement) (replacement_if (if_same y o)) y (if_same y o) (λ w e. ap replacement_if e);
       },
     )
 
-  whole-base : AgreeAtCommits b x → IsWhole (triple b x b) x
-  whole-base agree = record {
+  whole-base : AgreeAtCommits b x → KeepChecksums b x → IsWhole (triple b x b) x
+  whole-base agree keeps = record {
     one = side.lockfile.one;
-    each = λ y among. let (o, at) = at-option b y.place in merged-base agree y among o at;
+    each = λ y among. let (o, at) = at-option b y.place in merged-base agree keeps y among o at;
     closed = side.closed;
     roots = λ p r. let m = kept-other r in (m.0, m.1);
     needed = λ y among. let r = side.needed y among in (r.0, r.1, kept-from (member-cases b base.one r.0) r.2, r.3);
   }
 
-  pub merge-base : AgreeAtCommits b x → IsMerge (triple b x b) x
-  merge-base agree = whole-merge (triple b x b) (each-one (triple b x b) with-base) x (whole-base agree)
+  pub merge-base : AgreeAtCommits b x → KeepChecksums b x → IsMerge (triple b x b) x
+  merge-base agree keeps = whole-merge (triple b x b) (each-one (triple b x b) with-base) x (whole-base agree keeps)
 
-  pub the-other : AgreeAtCommits b x → IsTheMerge (triple b x b) x × IsTheMerge (triple b b x) x
-  the-other agree = (
-    the-merge (triple b x b) x with-base (merge-base agree),
-    the-merge (triple b b x) x (record { base = base; ours = base; theirs = side.lockfile }) (merge-flip (triple b x b) x (merge-base agree)),
+  pub the-other : AgreeAtCommits b x → KeepChecksums b x → IsTheMerge (triple b x b) x × IsTheMerge (triple b b x) x
+  the-other agree keeps = (
+    the-merge (triple b x b) x with-base (merge-base agree keeps),
+    the-merge (triple b b x) x (record { base = base; ours = base; theirs = side.lockfile }) (merge-flip (triple b x b) x (merge-base agree keeps)),
   )
 
   -- ---- the sides are equal
@@ -186,7 +217,7 @@ module _ (b x : List (PlacedData Place)) (base : IsLockfile b) (side : IsSoundBy
   with-itself : AreLockfiles (triple b x x)
   with-itself = record { base = base; ours = side.lockfile; theirs = side.lockfile }
 
-  module _ (y : PlacedData Place) (among : Contains x y) (o : Option (PlacedData Place)) (at : IsAt b y.place o) where
+  module _ (keeps : KeepChecksums b x) (y : PlacedData Place) (among : Contains x y) (o : Option (PlacedData Place)) (at : IsAt b y.place o) where
     same-side : (w : PlacedData Place) → IsOfSide (Some y) (Some y) w → y ≡ w
     same-side w (inl e) = same_Some y w e
     same-side w (inr e) = same_Some y w e
@@ -222,25 +253,32 @@ module _ (b x : List (PlacedData Place)) (base : IsLockfile b) (side : IsSoundBy
         at = record { base = at; ours = (among, refl); theirs = (among, refl) };
         chosen = chosen-both;
         identity = refl;
-        checksum = value-both (λ z. z.content.checksum) (checksum_if (if_same y o)) y;
+        checksum = checksum-both o y (kept-in b x keeps y among o at);
         dependencies = λ d. depends-both o y d;
         replacement = value-both (λ z. z.replacement) (replacement_if (if_same y o)) y;
       },
     )
 
-  whole-both : IsWhole (triple b x x) x
-  whole-both = record {
+  whole-both : KeepChecksums b x → IsWhole (triple b x x) x
+  whole-both keeps = record {
     one = side.lockfile.one;
-    each = λ y among. let (o, at) = at-option b y.place in merged-both y among o at;
+    each = λ y among. let (o, at) = at-option b y.place in merged-both keeps y among o at;
     closed = side.closed;
     roots = λ p r. let m = kept-both r in (m.0, m.1);
     needed = λ y among. let r = side.needed y among in (r.0, r.1, inl (r.2, r.2), r.3);
   }
 
-  pub each-side : IsTheMerge (triple b x x) x
-  each-side = the-merge (triple b x x) x with-itself (whole-merge (triple b x x) (each-one (triple b x x) with-itself) x whole-both)
+  pub each-side : KeepChecksums b x → IsTheMerge (triple b x x) x
+  each-side keeps = the-merge (triple b x x) x with-itself (whole-merge (triple b x x) (each-one (triple b x x) with-itself) x (whole-both keeps))
 
 -- ---- a commit with two versions
+
+-- the other side is the merge only where it keeps the checksums of the base
+pub base-kept : (b x : List (PlacedData Place)) → IsLockfile b → IsLockfile x → IsMerge (triple b x b) x → KeepChecksums b x
+base-kept b x base side h p w y aw ay same c checksum =
+    let (d, from) = from-at (triple b x b) base.one side.one base.one p y (Some w) (Some y) (Some w) ay.1 (record { base = aw; ours = ay; theirs = aw }) (h.each y ay.0) in
+    let key-d : key w ≡ key d = same ∙ ap identity_key from.identity in
+    only-keeps _ _ _ y.content.checksum from.checksum c (checksum-to d w c key-d checksum)
 
 -- the other side is the merge only where a commit has one version of a package
 pub base-agrees : (b x : List (PlacedData Place)) → IsLockfile b → IsLockfile x → IsMerge (triple b x b) x → AgreeAtCommits b x

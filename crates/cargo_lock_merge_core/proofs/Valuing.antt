@@ -7,12 +7,15 @@ use Rattle.std.proofs.lemmas.Option.{same_Some}
 use Rattle.cargo_lock_merge_core.specs.declared.rule3.Equal.{Equal}
 use Rattle.cargo_lock_merge_core.specs.declared.rule3.Side.{Side}
 use Rattle.cargo_lock_merge_core.specs.declared.rule3.Side.TheVariants.{Ours, Theirs}
-use Rattle.cargo_lock_merge_core.specs.Agreed.{AreEqual, IsAgreedSide}
-use Rattle.cargo_lock_merge_core.specs.Choices.{IsOfSide, if_same}
-use Rattle.cargo_lock_merge_core.specs.Numbered.{IsValueChoice}
+use Rattle.cargo_lock_parts.specs.Checksum.{digest_of}
+use Rattle.cargo_lock_parts.specs.declared.package.checksum.Checksum.{Checksum}
+use Rattle.cargo_lock_merge_core.specs.Agreed.{AreEqual, IsAgreedSide, IsOnlyOf}
+use Rattle.cargo_lock_merge_core.specs.Choices.{IsOfSide, checksum_if, if_same}
+use Rattle.cargo_lock_merge_core.specs.Numbered.{IsChecksumChoice, IsValueChoice}
 use Rattle.cargo_lock_merge_core.specs.Placed.{PlacedData}
 use Rattle.cargo_lock_merge_core.specs.Rule3.{IsDisputed, IsMergedValue}
 use Rattle.cargo_lock_merge_core.proofs.Agreeing.{agreed-by, conflict-by}
+use Rattle.cargo_lock_merge_core.proofs.OnlyValue.{only-cast, only-same, only-then, two-apart, two-cast, two-first, two-then}
 
 if-cases : (b : Bool) (y z : PlacedData ℕ) → cond b (Some z) None ≡ Some y → z ≡ y
 if-cases true y z e = same_Some z y e
@@ -59,3 +62,26 @@ module _ {X : Type 0} (f : PlacedData ℕ → X) (old : X) (o t : Option (Placed
   pub value-none : IsOfSide o t x → if_same x o ≡ None → if_same x t ≡ None → ⊥
   value-none (inl e) eo et = let n = sym (ap (if_same x) e ∙ if-same-itself x) ∙ eo in absurd cc
   value-none (inr e) eo et = let n = sym (ap (if_same x) e ∙ if-same-itself x) ∙ et in absurd cc
+
+-- ---- checksums
+
+pub only-of-both : (a b : Option Checksum) (x y : Checksum) → a ≡ Some x → b ≡ Some y → digest_of x ≡ digest_of y → IsOnlyOf (option_map digest_of a) (option_map digest_of b) (Some (Some (digest_of x)))
+only-of-both a b x y ea eb same =
+    only-cast _ _ _ _ _ _ (Some (digest_of x)) refl (sym (ap (option_map digest_of) ea)) (ap Some same ∙ sym (ap (option_map digest_of) eb)) (only-same (digest_of x))
+
+pub two-of-both : (a b : Option Checksum) (x y : Checksum) → a ≡ Some x → b ≡ Some y → ¬ (digest_of x ≡ digest_of y) → IsOnlyOf (option_map digest_of a) (option_map digest_of b) None
+two-of-both a b x y ea eb apart =
+    two-cast _ _ _ _ _ _ refl (sym (ap (option_map digest_of) ea)) (sym (ap (option_map digest_of) eb)) (two-apart (digest_of x) (digest_of y) apart)
+
+module _ (b o t : Option (PlacedData ℕ)) (x : PlacedData ℕ) where
+  pub checksum-disputed : (p q : Option Checksum) → option_map digest_of p ≡ checksum_if (if_same x b) → option_map digest_of q ≡ checksum_if (if_same x o)
+      → IsOnlyOf (option_map digest_of p) (option_map digest_of q) None → IsChecksumChoice b o t x None
+  checksum-disputed p q ep eq two = two-first _ _ _ (two-cast _ _ _ _ _ _ refl ep eq two)
+
+  pub checksum-chosen : (p q r v : Option Checksum) (w : Option (Option Checksum)) → option_map digest_of p ≡ checksum_if (if_same x b) → option_map digest_of q ≡ checksum_if (if_same x o)
+      → option_map digest_of r ≡ checksum_if (if_same x t) → IsOnlyOf (option_map digest_of p) (option_map digest_of q) (Some (option_map digest_of v))
+      → IsOnlyOf (option_map digest_of v) (option_map digest_of r) (option_map (option_map digest_of) w) → IsChecksumChoice b o t x (option_map (option_map digest_of) w)
+  checksum-chosen p q r v None ep eq er first two =
+      two-then _ _ (option_map digest_of v) _ (only-cast _ _ _ _ _ _ (option_map digest_of v) refl ep eq first) (two-cast _ _ _ _ _ _ refl refl er two)
+  checksum-chosen p q r v (Some w) ep eq er first only =
+      only-then _ _ (option_map digest_of v) _ (option_map digest_of w) (only-cast _ _ _ _ _ _ (option_map digest_of v) refl ep eq first) (only-cast _ _ _ _ _ _ (option_map digest_of w) refl refl er only)

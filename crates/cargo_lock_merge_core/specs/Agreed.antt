@@ -5,9 +5,10 @@ use Rattle.cargo_lock_merge_core.specs.declared.rule3.Equal.{Equal}
 use Rattle.cargo_lock_merge_core.specs.declared.rule3.Side.{Side}
 use Rattle.cargo_lock_merge_core.specs.declared.rule3.Side.TheVariants.{Ours, Theirs}
 use Rattle.cargo_lock_parts.specs.Identity.{PackageData}
-use Rattle.cargo_lock_merge_core.specs.Choices.{AreAbove, HasLowerVersion, IsOfGit, IsOfRegistry}
+use Rattle.cargo_lock_merge_core.specs.Choices.{HasLowerVersion, IsOfGit, IsVersionDecisive}
 use Rattle.cargo_lock_merge_core.specs.Commits.{IsAtMergedCommit, Lockfiles}
 use Rattle.cargo_lock_merge_core.specs.Placed.{PlacedData}
+use Rattle.cargo_lock_merge_core.specs.Rule3.{HaveTwoValues, IsOnlyValue}
 
 -- the side whose value is agreed on
 abbrev pub IsAgreedSide : Equal → Option Side → Type 0
@@ -33,15 +34,15 @@ IsSideAt ours theirs same None = ((¬ IsTrue ours) × ¬ IsTrue theirs)
 abbrev pub IsUsable : Lockfiles → PackageData → Type 0
 IsUsable all p = (¬ IsOfGit p) ⊎ IsAtMergedCommit all p
 
--- the version decides between two packages
-pub record IsDecided {P : Type 0} (b : Option (PlacedData P)) (o t : PlacedData P) : Type 0 where
-  pub ours : IsOfRegistry o.content
-  pub theirs : IsOfRegistry t.content
-  pub above : AreAbove b o t
+-- the only value of two that may be absent, or they differ
+abbrev pub IsOnlyOf : {X : Type 0} → Option X → Option X → Option (Option X) → Type 0
+IsOnlyOf a b (Some v) = IsOnlyValue None a b v
+IsOnlyOf a b None = HaveTwoValues None a b
 
 -- the side with the greater version, if the version decides
 abbrev pub IsVersionSide : {P : Type 0} → Option (PlacedData P) → PlacedData P → PlacedData P
     → Option Side → Type 0
-IsVersionSide b o t (Some Ours) = IsDecided b o t × HasLowerVersion t o
-IsVersionSide b o t (Some Theirs) = IsDecided b o t × HasLowerVersion o t
-IsVersionSide b o t None = ¬ (IsDecided b o t × (HasLowerVersion t o ⊎ HasLowerVersion o t))
+IsVersionSide b o t (Some Ours) = IsVersionDecisive b o t × HasLowerVersion t o
+IsVersionSide b o t (Some Theirs) = IsVersionDecisive b o t × HasLowerVersion o t
+IsVersionSide b o t None = ¬ (IsVersionDecisive b o t
+    × (HasLowerVersion t o ⊎ HasLowerVersion o t))

@@ -10,7 +10,8 @@ use Rattle.cargo_lock_parts.specs.Source.{Source, is_registry}
 use Rattle.cargo_lock_parts.specs.SourceKey.{Key}
 use Rattle.cargo_lock_merge_core.specs.Commits.{IsAtMergedCommit, IsSourceConflict, Lockfiles, git_in}
 use Rattle.cargo_lock_merge_core.specs.Placed.{PlacedData, key, key_if}
-use Rattle.cargo_lock_merge_core.specs.Rule3.{IsAgreed, IsDisputed, IsInConflict, IsKept, IsMergedValue}
+use Rattle.cargo_lock_merge_core.specs.Rule3.{HaveTwoValues, IsAgreed, IsDisputed, IsInConflict, IsKept}
+use Rattle.cargo_lock_merge_core.specs.Rule3.{IsMergedValue, IsOnlyValue}
 
 -- the package is that of one of the two sides
 abbrev pub IsOfSide : {P : Type 0} → Option (PlacedData P) → Option (PlacedData P) → PlacedData P
@@ -38,12 +39,33 @@ abbrev pub AreAbove : {P : Type 0} → Option (PlacedData P) → PlacedData P �
 AreAbove None o t = Unit {0}
 AreAbove (Some b) o t = HasLowerVersion b o × HasLowerVersion b t
 
--- both sides changed a package of a registry, and the greater version decides
-pub record IsByVersion {P : Type 0} (b : Option (PlacedData P)) (o t : PlacedData P) : Type 0 where
-  pub changed : IsInConflict (key_if b) (Some (key o)) (Some (key t))
+-- both packages are of a registry, with versions above the base's
+pub record AreUpdated {P : Type 0} (b : Option (PlacedData P)) (o t : PlacedData P) : Type 0 where
   pub ours : IsOfRegistry o.content
   pub theirs : IsOfRegistry t.content
   pub above : AreAbove b o t
+
+-- the package has no source: it is a member of the workspace, or a package at a path
+abbrev pub IsSourceless : {P : Type 0} → PlacedData P → Type 0
+IsSourceless x = x.content.source ≡ None
+
+-- all three have the package, and none has a source for it
+pub record AreOfMember {P : Type 0} (b : Option (PlacedData P)) (o t : PlacedData P) : Type 0 where
+  pub old : PlacedData P
+  pub base : b ≡ Some old
+  pub sourceless : IsSourceless old
+  pub ours : IsSourceless o
+  pub theirs : IsSourceless t
+
+-- the greater of two versions decides
+abbrev pub IsVersionDecisive : {P : Type 0} → Option (PlacedData P) → PlacedData P → PlacedData P
+    → Type 0
+IsVersionDecisive b o t = AreUpdated b o t ⊎ AreOfMember b o t
+
+-- both sides changed the package, and the greater version decides
+pub record IsByVersion {P : Type 0} (b : Option (PlacedData P)) (o t : PlacedData P) : Type 0 where
+  pub changed : IsInConflict (key_if b) (Some (key o)) (Some (key t))
+  pub decisive : IsVersionDecisive b o t
 
 -- x has the greater version of two packages
 abbrev pub IsGreater : {P : Type 0} → PlacedData P → PlacedData P → PlacedData P → Type 0
@@ -90,9 +112,10 @@ abbrev pub DependsOn : {P : Type 0} → Option (PlacedData P) → P → Type 0
 DependsOn None d = ⊥
 DependsOn (Some x) d = Contains x.dependencies d
 
--- A side's package y counts where it has the identity of the chosen x or of the base's package.
+-- A side's package y counts where it has the identity of the chosen x or of the base's package, or
+-- no source: the dependencies of a member of the workspace are its own in each version.
 abbrev pub Counts : {P : Type 0} → Option (PlacedData P) → PlacedData P → PlacedData P → Type 0
-Counts b x y = (key y ≡ key x) ⊎ (key_if b ≡ Some (key y))
+Counts b x y = (key y ≡ key x) ⊎ ((key_if b ≡ Some (key y)) ⊎ IsSourceless y)
 
 -- the chosen x depends on the place d: where one side has no package or one that does not count,
 -- the other's does; else by the rule of three
@@ -131,19 +154,36 @@ abbrev pub replacement_if : {P : Type 0} → Option (PlacedData P) → Option P
 replacement_if None = None
 replacement_if (Some x) = x.replacement
 
--- the checksum of the chosen x, of those that its identity has
+-- the checksum of the chosen x: the only one that its identity has in the three lists, if it has
+-- any, since the checksum of a package never changes
 abbrev pub IsChecksum : {P : Type 0} → Option (PlacedData P) → Option (PlacedData P)
     → Option (PlacedData P) → PlacedData P → Option (List ℕ) → Type 0
-IsChecksum b o t x c = IsMergedValue (checksum_if (if_same x b))
-    (option_map (λ y. y.content.checksum) (if_same x o))
-    (option_map (λ y. y.content.checksum) (if_same x t)) c
+IsChecksum b o t x c = IsOnlyValue (checksum_if (if_same x b)) (checksum_if (if_same x o))
+    (checksum_if (if_same x t)) c
 
--- the sides are in conflict about the checksum of the chosen x
+-- the identity of the chosen x has two checksums in the three lists
 abbrev pub IsChecksumConflict : {P : Type 0} → Option (PlacedData P) → Option (PlacedData P)
     → Option (PlacedData P) → PlacedData P → Type 0
-IsChecksumConflict b o t x = IsDisputed (checksum_if (if_same x b))
-    (option_map (λ y. y.content.checksum) (if_same x o))
-    (option_map (λ y. y.content.checksum) (if_same x t))
+IsChecksumConflict b o t x = HaveTwoValues (checksum_if (if_same x b)) (checksum_if (if_same x o))
+    (checksum_if (if_same x t))
+
+-- a side's package has the identity of x, and no checksum
+abbrev pub HasNoChecksumFor : {P : Type 0} → PlacedData P → Option (PlacedData P) → Type 0
+HasNoChecksumFor {P = P} x o = (y : PlacedData P) × (if_same x o ≡ Some y)
+    × (y.content.checksum ≡ None)
+
+-- the base has a checksum of the chosen x, and a side has it no more
+abbrev pub HasLostChecksum : {P : Type 0} → Option (PlacedData P) → Option (PlacedData P)
+    → Option (PlacedData P) → PlacedData P → Type 0
+HasLostChecksum b o t x = (c : List ℕ) × (checksum_if (if_same x b) ≡ Some c)
+    × (HasNoChecksumFor x o ⊎ HasNoChecksumFor x t)
+
+-- all three have a member of the workspace, in versions that differ
+abbrev pub HasTwoNewVersions : {P : Type 0} → Option (PlacedData P) → Option (PlacedData P)
+    → Option (PlacedData P) → Type 0
+HasTwoNewVersions b (Some o) (Some t) = AreOfMember b o t
+    × IsInConflict (key_if b) (Some (key o)) (Some (key t))
+HasTwoNewVersions b o t = ⊥
 
 -- the place of the replacement of the chosen x, of those that its identity has
 abbrev pub IsReplacement : {P : Type 0} → Option (PlacedData P) → Option (PlacedData P)

@@ -8,26 +8,30 @@ use Rattle.cargo_lock_parts.specs.Identity.{PackageData}
 use Rattle.cargo_lock_merge_core.specs.declared.commits.SourceCommits.{SourceCommits}
 use Rattle.cargo_lock_merge_core.specs.declared.conflicts.Conflict.{Conflict}
 use Rattle.cargo_lock_merge_core.specs.declared.conflicts.Kind.{Kind}
-use Rattle.cargo_lock_merge_core.specs.declared.conflicts.Kind.TheVariants.{Package, Checksum}
-use Rattle.cargo_lock_merge_core.specs.declared.conflicts.Kind.TheVariants.{Replacement}
+use Rattle.cargo_lock_merge_core.specs.declared.conflicts.Kind.TheVariants.{Checksum, LostChecksum}
+use Rattle.cargo_lock_merge_core.specs.declared.conflicts.Kind.TheVariants.{Package, Replacement}
+use Rattle.cargo_lock_merge_core.specs.declared.conflicts.Kind.TheVariants.{Version}
 use Rattle.cargo_lock_merge_core.specs.declared.entry.Chosen.{Chosen}
 use Rattle.cargo_lock_merge_core.specs.declared.entry.Entry.{Entry}
 use Rattle.cargo_lock_merge_core.specs.declared.plan.Plan.{Plan}
 use Rattle.cargo_lock_merge_core.specs.declared.rows.Row.{Row}
-use Rattle.cargo_lock_merge_core.specs.Choices.{IsChosen}
+use Rattle.cargo_lock_merge_core.specs.Choices.{HasLostChecksum, HasTwoNewVersions, IsChosen}
 use Rattle.cargo_lock_merge_core.specs.Commits.{Lockfiles, git_in}
 use Rattle.cargo_lock_merge_core.specs.Disputes.{HasDispute, IsSourceOf}
-use Rattle.cargo_lock_merge_core.specs.Merge.{ConflictData, OfChecksum, OfPackage, OfReplacement}
-use Rattle.cargo_lock_merge_core.specs.Merge.{HaveAt, IsConflict, Triple, lockfiles_of}
-use Rattle.cargo_lock_merge_core.specs.Numbered.{data_if}
+use Rattle.cargo_lock_merge_core.specs.Merge.{HaveAt, IsMatter, MatterData, OfChecksum}
+use Rattle.cargo_lock_merge_core.specs.Merge.{OfLostChecksum, OfPackage, OfReplacement, OfVersion}
+use Rattle.cargo_lock_merge_core.specs.Merge.{Triple, lockfiles_of}
+use Rattle.cargo_lock_merge_core.specs.Numbered.{data_if, placed_data}
 use Rattle.cargo_lock_merge_core.specs.Placed.{PlacedData}
 use Rattle.lists.specs.Marks.{IsMarked}
 
 -- the conflict about this at a place
-abbrev pub conflict_of : {P : Type 0} → Kind → P → ConflictData P
+abbrev pub conflict_of : {P : Type 0} → Kind → P → MatterData P
 conflict_of Package p = OfPackage p
 conflict_of Checksum p = OfChecksum p
 conflict_of Replacement p = OfReplacement p
+conflict_of Version p = OfVersion p
+conflict_of LostChecksum p = OfLostChecksum p
 
 -- the places of conflicts
 abbrev pub conflict_places : List Conflict → List ℕ
@@ -77,7 +81,7 @@ IsConflictAt s kind c = (x : Option (PlacedData ℕ)) × (y : Option (PlacedData
 -- these are the conflicts about this, each once
 pub record AreConflicts (s : Triple ℕ) (kind : Kind) (all : List Conflict) : Type 0 where
   pub ascending : IsStrictlyIncreasing (conflict_places all)
-  pub holds : (p : ℕ) → Contains (conflict_places all) p ↔ IsConflict s (conflict_of kind p)
+  pub holds : (p : ℕ) → Contains (conflict_places all) p ↔ IsMatter s (conflict_of kind p)
   pub each : All (IsConflictAt s kind) all
 
 -- ---- as the program finds them
@@ -91,6 +95,12 @@ HasConflict all Checksum r None = ⊥
 HasConflict all Checksum r (Some c) = c.checksum ≡ None
 HasConflict all Replacement r None = ⊥
 HasConflict all Replacement r (Some c) = c.replacement ≡ None
+HasConflict all Version r None = ⊥
+HasConflict all Version r (Some c) = HasTwoNewVersions (data_if r.base) (data_if r.ours) (data_if
+    r.theirs)
+HasConflict all LostChecksum r None = ⊥
+HasConflict all LostChecksum r (Some c) = HasLostChecksum (data_if r.base) (data_if r.ours) (data_if
+    r.theirs) (placed_data c.«package»)
 
 -- the conflict is that of the entry about this
 pub record IsConflictOf (all : Lockfiles) (about : Kind) (e : Entry) (c : Conflict) : Type 0 where

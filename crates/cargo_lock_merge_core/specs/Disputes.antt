@@ -14,7 +14,7 @@ use Rattle.cargo_lock_merge_core.specs.CommitMaps.{IsBareGit, commit_if}
 use Rattle.cargo_lock_merge_core.specs.Commits.{AreCommits, IsSourceConflict, Lockfiles, git_in}
 use Rattle.cargo_lock_edges.specs.Nearest.{key_without_commit}
 use Rattle.cargo_lock_merge_core.specs.LawsOfMerges.{HaveOneCommitEach}
-use Rattle.cargo_lock_merge_core.specs.Merge.{IsConflict, OfSource, Triple, lockfiles_of}
+use Rattle.cargo_lock_merge_core.specs.Merge.{IsMatter, OfSource, Triple, lockfiles_of}
 use Rattle.cargo_lock_merge_core.specs.Numbered.{data_if}
 use Rattle.cargo_lock_merge_core.specs.Placed.{PlacedData}
 use Rattle.lists.specs.Marks.{IsMarked}
@@ -43,7 +43,7 @@ pub record IsSourceOf (all : Lockfiles) (p : PackageData) (c : SourceCommits) : 
 
 -- these are the git sources of conflicts, each once
 pub record AreDisputes (s : Triple ℕ) (all : List SourceCommits) : Type 0 where
-  pub exact : (g : Key) → Contains (map source_key all) g ↔ IsConflict s (OfSource g)
+  pub exact : (g : Key) → Contains (map source_key all) g ↔ IsMatter s (OfSource g)
   pub once : AllPairs (λ g k. g ≢ k) (map source_key all)
   pub each : All (λ c. HasCommits (lockfiles_of s) c × AreInDispute c) all
 

@@ -1,7 +1,8 @@
 -- What a merge has at a place that is a number, as the program has it.
-use Rattle.std.specs.Prelude.{◌⊎◌, ◌↔◌, ℕ, Option, Some, None}
+use Rattle.std.specs.Prelude.{◌⊎◌, ◌↔◌, ℕ, Option, Some, None, option_map}
 use Rattle.std.specs.List.{Contains}
 use Rattle.std.specs.List.Sorted.{IsStrictlyIncreasing}
+use Rattle.cargo_lock_parts.specs.Checksum.{digest_of}
 use Rattle.cargo_lock_merge_core.specs.declared.entry.Chosen.{Chosen}
 use Rattle.cargo_lock_merge_core.specs.declared.entry.Entry.{Entry}
 use Rattle.cargo_lock_merge_core.specs.declared.rows.Row.{Row}
@@ -22,10 +23,10 @@ pub record IsRowInOrder (r : Row) : Type 0 where
   pub ours : HasAscending (data_if r.ours)
   pub theirs : HasAscending (data_if r.theirs)
 
--- the chosen package, and the sides whose checksum and replacement it has
+-- the chosen package with its checksum, and the side whose replacement it has
 pub record HasValues (r : Row) (c : Chosen) : Type 0 where
   pub checksum : IsChecksumChoice (data_if r.base) (data_if r.ours) (data_if r.theirs)
-      (placed_data c.«package») c.checksum
+      (placed_data c.«package») (option_map (option_map digest_of) c.checksum)
   pub replacement : IsReplacementChoice (data_if r.base) (data_if r.ours) (data_if r.theirs)
       (placed_data c.«package») c.replacement
 

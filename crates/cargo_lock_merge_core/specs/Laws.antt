@@ -1,7 +1,7 @@
 -- Laws of the merge, by the places of packages in lockfiles.
 use Rattle.std.specs.Prelude.{◌≡◌, ◌⊎◌, ℕ, List}
 use Rattle.std.specs.List.{Contains}
-use Rattle.cargo_lock_merge_core.specs.Merge.{ConflictData, IsConflict, IsMerge, IsMovedReference}
+use Rattle.cargo_lock_merge_core.specs.Merge.{MatterData, IsMatter, IsMerge, IsMovedReference}
 use Rattle.cargo_lock_merge_core.specs.Merge.{OfChecksum, OfPackage}
 use Rattle.cargo_lock_merge_core.specs.Merge.{OfReplacement, Triple}
 use Rattle.cargo_lock_merge_core.specs.Placed.{HasAt, HasOneAtEach, PlacedData, key}
@@ -57,8 +57,8 @@ pub record HaveOneAtEach (s : Triple Place) : Type 0 where
 -- a merge has no conflict about a package, a checksum or a replacement
 abbrev pub MergeHasNoConflict : Type 0
 MergeHasNoConflict = (s : Triple Place) (m : List (PlacedData Place)) (p : Place)
-    → HaveOneAtEach s → IsMerge s m → (¬ IsConflict s (OfPackage p))
-    × (¬ IsConflict s (OfChecksum p)) × ¬ IsConflict s (OfReplacement p)
+    → HaveOneAtEach s → IsMerge s m → (¬ IsMatter s (OfPackage p))
+    × (¬ IsMatter s (OfChecksum p)) × ¬ IsMatter s (OfReplacement p)
 
 -- both sides have the package of one identity at the place of x
 pub record HaveBoth (s : Triple Place) (x y z : PlacedData Place) : Type 0 where
@@ -81,8 +81,8 @@ TakenAwayIsGone = (s : Triple Place) (m : List (PlacedData Place)) (w x y z : Pl
 
 -- the sides of a conflict may be exchanged
 abbrev pub ConflictsAreSymmetric : Type 0
-ConflictsAreSymmetric = (s : Triple Place) (c : ConflictData Place) → IsConflict s c
-    → IsConflict (exchange s) c
+ConflictsAreSymmetric = (s : Triple Place) (c : MatterData Place) → IsMatter s c
+    → IsMatter (exchange s) c
 
 -- the sides of a moved reference may be exchanged
 abbrev pub MovedReferencesAreSymmetric : Type 0

@@ -8,7 +8,8 @@ use Rattle.cargo_lock_merge_core.specs.Choices.{IsOfGit}
 use Rattle.cargo_lock_merge_core.specs.Commits.{HasOneCommitEach, Lockfiles, commit_in}
 use Rattle.cargo_lock_edges.specs.Nearest.{key_without_commit}
 use Rattle.cargo_lock_merge_core.specs.Laws.{HaveOneAtEach}
-use Rattle.cargo_lock_merge_core.specs.Merge.{ConflictData, IsConflict, IsMerge, IsMovedReference}
+use Rattle.cargo_lock_merge_core.specs.Merge.{IsConflicting, IsMatter, IsMerge, IsMovedReference}
+use Rattle.cargo_lock_merge_core.specs.Merge.{MatterData}
 use Rattle.cargo_lock_merge_core.specs.Merge.{IsReachedInMerge, Triple}
 use Rattle.cargo_lock_merge_core.specs.Placed.{HasAt, HasMember, HasOneAtEach, PlacedData, contents_of}
 use Rattle.cargo_lock_merge_core.specs.Placed.{key}
@@ -95,7 +96,7 @@ MergeOfListsIsSound = (all : Lockfiles) (m : List PackageData) (h : IsMergeOf al
 -- where there is a merge, the sides are in conflict about nothing, commits of git sources included
 abbrev pub MergeExcludesConflicts : Type 0
 MergeExcludesConflicts = (s : Triple Place) (m : List (PlacedData Place))
-    (c : ConflictData Place) → AreLockfiles s → IsMerge s m → ¬ IsConflict s c
+    (c : MatterData Place) → IsConflicting c → AreLockfiles s → IsMerge s m → ¬ IsMatter s c
 
 -- ---- what both sides have
 
@@ -133,7 +134,7 @@ UnmovedAreOfSides = (s : Triple Place) (m : List (PlacedData Place)) (x y : Plac
 pub record IsTheMerge (s : Triple Place) (x : List (PlacedData Place)) : Type 0 where
   pub merge : IsMerge s x
   pub only : (m : List (PlacedData Place)) → IsMerge s m → HaveAlike m x
-  pub agreed : (c : ConflictData Place) → ¬ IsConflict s c
+  pub agreed : (c : MatterData Place) → IsConflicting c → ¬ IsMatter s c
 
 -- Packages of a git source that the two lists have at one place and at one commit are of one
 -- identity.
@@ -146,22 +147,29 @@ abbrev pub triple : List (PlacedData Place) → List (PlacedData Place) → List
     → Triple Place
 triple b o t = record { base = b; ours = o; theirs = t }
 
--- where one side is the base, and a commit has one version of a package, the merge is the other
--- side
+-- Of two lists the second keeps the checksums of the first: where both have a package of one
+-- identity, and the first has a checksum of it, the second has the same.
+abbrev pub KeepChecksums : List (PlacedData Place) → List (PlacedData Place) → Type 0
+KeepChecksums xs ys = (p : Place) (x y : PlacedData Place) → HasAt xs p x → HasAt ys p y
+    → key x ≡ key y → (c : List ℕ) → x.content.checksum ≡ Some c → y.content.checksum ≡ Some c
+
+-- where one side is the base, a commit has one version of a package, and the other side keeps the
+-- checksums, the merge is that side
 abbrev pub MergeWithBase : Type 0
 MergeWithBase = (b x : List (PlacedData Place)) → IsLockfile b → IsSoundByPlaces x
-    → AgreeAtCommits b x → IsTheMerge (triple b x b) x × IsTheMerge (triple b b x) x
+    → AgreeAtCommits b x → KeepChecksums b x
+    → IsTheMerge (triple b x b) x × IsTheMerge (triple b b x) x
 
 -- It is so only then: where the base has a package at the same commit in another version, both are
--- at the merged commit, and the sides are in conflict.
+-- at the merged commit, and the sides are in conflict. A checksum that is gone is in the merge.
 abbrev pub MergeWithBaseAgrees : Type 0
 MergeWithBaseAgrees = (b x : List (PlacedData Place)) → IsLockfile b → IsLockfile x
-    → IsMerge (triple b x b) x → AgreeAtCommits b x
+    → IsMerge (triple b x b) x → AgreeAtCommits b x × KeepChecksums b x
 
--- where the sides are equal, the merge is each of them
+-- where the sides are equal, and keep the checksums of the base, the merge is each of them
 abbrev pub MergeWithItself : Type 0
 MergeWithItself = (b x : List (PlacedData Place)) → IsLockfile b → IsSoundByPlaces x
-    → IsTheMerge (triple b x x) x
+    → KeepChecksums b x → IsTheMerge (triple b x x) x
 
 -- ---- a merge is stable
 

@@ -6,7 +6,7 @@ use Rattle.cargo_lock_merge_core.specs.ByPlaces.{AreAllPlaced}
 use Rattle.cargo_lock_merge_core.specs.Commits.{Lockfiles}
 use Rattle.cargo_lock_merge_core.specs.Laws.{exchange}
 use Rattle.cargo_lock_merge_core.specs.LawsOfMerges.{HaveAlike}
-use Rattle.cargo_lock_merge_core.specs.Merge.{ConflictData, IsConflict, IsMerge, IsMovedReference, Triple}
+use Rattle.cargo_lock_merge_core.specs.Merge.{MatterData, IsMatter, IsMerge, IsMovedReference, Triple}
 use Rattle.cargo_lock_merge_core.specs.Placed.{PlacedData}
 use Rattle.cargo_lock_merge_core.specs.Places.{IsMergeOf, Place}
 
@@ -17,8 +17,8 @@ ListingsHaveOneMerge = (all : Lockfiles) (s t : Triple Place) (m : List (PlacedD
 
 -- they have the same conflicts
 abbrev pub ListingsHaveOneConflict : Type 0
-ListingsHaveOneConflict = (all : Lockfiles) (s t : Triple Place) (c : ConflictData Place)
-    → AreAllPlaced all s → AreAllPlaced all t → IsConflict s c → IsConflict t c
+ListingsHaveOneConflict = (all : Lockfiles) (s t : Triple Place) (c : MatterData Place)
+    → AreAllPlaced all s → AreAllPlaced all t → IsMatter s c → IsMatter t c
 
 -- they have the same moved references of a merge
 abbrev pub ListingsHaveOneMoved : Type 0

@@ -4,7 +4,8 @@ use Rattle.std.specs.List.{Contains}
 use Rattle.cargo_lock_parts.specs.Identity.{identity_of}
 use Rattle.cargo_lock_parts.specs.SourceKey.{Key}
 use Rattle.lists.specs.Chains.{IsReachedFrom}
-use Rattle.cargo_lock_merge_core.specs.Choices.{IsChecksum, IsChecksumConflict, IsChosen, IsDependency}
+use Rattle.cargo_lock_merge_core.specs.Choices.{HasLostChecksum, HasTwoNewVersions, IsChecksum}
+use Rattle.cargo_lock_merge_core.specs.Choices.{IsChecksumConflict, IsChosen, IsDependency}
 use Rattle.cargo_lock_merge_core.specs.Choices.{IsDependencyOf, IsOfSide, IsPackageConflict}
 use Rattle.cargo_lock_merge_core.specs.Choices.{IsReplacement, IsReplacementConflict}
 use Rattle.cargo_lock_merge_core.specs.Commits.{IsSourceConflict, Lockfiles, git_in}
@@ -72,37 +73,54 @@ pub record IsMerge {P : Type 0} (s : Triple P) (m : List (PlacedData P)) : Type 
   pub holds : (p : P) → ((x : PlacedData P) × HasAt m p x) ↔ IsReachedInMerge s p
   pub each : (x : PlacedData P) → Contains m x → IsMergedPackage s x
 
--- ---- conflicts
+-- ---- what there is to tell
 
--- what the sides are in conflict about: the package at a place, its checksum or its replacement, or
--- the commit of a git source
-pub data ConflictData (P : Type 0) : Type 0 where
-  OfPackage : P → ConflictData P
-  OfChecksum : P → ConflictData P
-  OfReplacement : P → ConflictData P
-  OfSource : Key → ConflictData P
+-- what the sides can be in conflict about: the package at a place, its checksum or its replacement,
+-- or the commit of a git source; and what else a merge tells of a place: that it chose between two
+-- new versions of a member of the workspace, and that a side lost a checksum
+pub data MatterData (P : Type 0) : Type 0 where
+  OfPackage : P → MatterData P
+  OfChecksum : P → MatterData P
+  OfReplacement : P → MatterData P
+  OfSource : Key → MatterData P
+  OfVersion : P → MatterData P
+  OfLostChecksum : P → MatterData P
 
--- the two sides are in conflict about this, at places that are reached
-abbrev pub IsConflict : {P : Type 0} → Triple P → ConflictData P → Type 0
-IsConflict {P = P} s (OfPackage p) = IsReachedInMerge s p
+-- the matter is a conflict, and no merge is made
+abbrev pub IsConflicting : {P : Type 0} → MatterData P → Type 0
+IsConflicting (OfVersion p) = ⊥
+IsConflicting (OfLostChecksum p) = ⊥
+IsConflicting other = Unit {0}
+
+-- there is this to tell, at a place that is reached
+abbrev pub IsMatter : {P : Type 0} → Triple P → MatterData P → Type 0
+IsMatter {P = P} s (OfPackage p) = IsReachedInMerge s p
     × ((x : Option (PlacedData P)) × (y : Option (PlacedData P)) × (z : Option (PlacedData P))
     × HaveAt s p x y z × IsPackageConflict (lockfiles_of s) x y z)
-IsConflict {P = P} s (OfChecksum p) = IsReachedInMerge s p
+IsMatter {P = P} s (OfChecksum p) = IsReachedInMerge s p
     × ((x : Option (PlacedData P)) × (y : Option (PlacedData P)) × (z : Option (PlacedData P))
     × (c : PlacedData P) × HaveAt s p x y z × IsChosen (lockfiles_of s) x y z c
     × IsChecksumConflict x y z c)
-IsConflict {P = P} s (OfReplacement p) = IsReachedInMerge s p
+IsMatter {P = P} s (OfReplacement p) = IsReachedInMerge s p
     × ((x : Option (PlacedData P)) × (y : Option (PlacedData P)) × (z : Option (PlacedData P))
     × (c : PlacedData P) × HaveAt s p x y z × IsChosen (lockfiles_of s) x y z c
     × IsReplacementConflict x y z c)
-IsConflict {P = P} s (OfSource g) = ((p : P) × IsReachedInMerge s p
+IsMatter {P = P} s (OfSource g) = ((p : P) × IsReachedInMerge s p
     × ((x : Option (PlacedData P)) × (y : Option (PlacedData P)) × (z : Option (PlacedData P))
     × (c : PlacedData P) × HaveAt s p x y z × IsOfSide y z c × (git_in c.content.source ≡ Some g)))
     × IsSourceConflict (lockfiles_of s) g
+IsMatter {P = P} s (OfVersion p) = IsReachedInMerge s p
+    × ((x : Option (PlacedData P)) × (y : Option (PlacedData P)) × (z : Option (PlacedData P))
+    × (c : PlacedData P) × HaveAt s p x y z × IsChosen (lockfiles_of s) x y z c
+    × HasTwoNewVersions x y z)
+IsMatter {P = P} s (OfLostChecksum p) = IsReachedInMerge s p
+    × ((x : Option (PlacedData P)) × (y : Option (PlacedData P)) × (z : Option (PlacedData P))
+    × (c : PlacedData P) × HaveAt s p x y z × IsChosen (lockfiles_of s) x y z c
+    × HasLostChecksum x y z c)
 
 -- it is not so that the sides are in conflict about nothing
 abbrev pub AreInConflict : {P : Type 0} → Triple P → Type 0
-AreInConflict {P = P} s = ¬ ((c : ConflictData P) → ¬ IsConflict s c)
+AreInConflict {P = P} s = ¬ ((c : MatterData P) → IsConflicting c → ¬ IsMatter s c)
 
 -- ---- moved references
 

@@ -5,7 +5,8 @@ use Rattle.cargo_lock_merge_core.specs.declared.placed.Placed.{Placed}
 use Rattle.cargo_lock_merge_core.specs.declared.rows.Row.{Row}
 use Rattle.cargo_lock_merge_core.specs.declared.rule3.Side.{Side}
 use Rattle.cargo_lock_merge_core.specs.declared.rule3.Side.TheVariants.{Ours, Theirs}
-use Rattle.cargo_lock_merge_core.specs.Choices.{IsChosen, checksum_if, if_same, replacement_if}
+use Rattle.cargo_lock_merge_core.specs.Choices.{IsChecksum, IsChecksumConflict, IsChosen, if_same}
+use Rattle.cargo_lock_merge_core.specs.Choices.{replacement_if}
 use Rattle.cargo_lock_merge_core.specs.Commits.{Lockfiles}
 use Rattle.cargo_lock_merge_core.specs.Placed.{IsAt, PlacedData}
 use Rattle.cargo_lock_merge_core.specs.Rule3.{IsDisputed, IsMergedValue}
@@ -71,12 +72,14 @@ IsValueChoice f old o t x (Some side) = (y : PlacedData ℕ) × (side_of o t sid
 IsValueChoice f old o t x None = IsDisputed old (option_map f (if_same x o)) (option_map f
     (if_same x t))
 
--- the same of the checksum
+-- the checksum of the chosen x is this, or the sides are in conflict about it
 abbrev pub IsChecksumChoice : Option (PlacedData ℕ) → Option (PlacedData ℕ) → Option (PlacedData ℕ)
-    → PlacedData ℕ → Option Side → Type 0
-IsChecksumChoice b o t x = IsValueChoice (λ y. y.content.checksum) (checksum_if (if_same x b)) o t x
+    → PlacedData ℕ → Option (Option (List ℕ)) → Type 0
+IsChecksumChoice b o t x (Some c) = IsChecksum b o t x c
+IsChecksumChoice b o t x None = IsChecksumConflict b o t x
 
--- the same of the place of the replacement
+-- the place of the replacement of the chosen x is that of this side, or the sides are in conflict
+-- about it
 abbrev pub IsReplacementChoice : Option (PlacedData ℕ) → Option (PlacedData ℕ)
     → Option (PlacedData ℕ) → PlacedData ℕ → Option Side → Type 0
 IsReplacementChoice b o t x = IsValueChoice (λ y. y.replacement) (replacement_if

@@ -1,7 +1,8 @@
 -- Places that are renamed.
 use Rattle.std.specs.Prelude.{◌≡◌, ◌⊎◌, List, Some, map, option_map}
 use Rattle.std.specs.List.{Contains}
-use Rattle.cargo_lock_merge_core.specs.Merge.{ConflictData, OfChecksum, OfPackage, OfReplacement, OfSource, Triple}
+use Rattle.cargo_lock_merge_core.specs.Merge.{MatterData, OfChecksum, OfLostChecksum, OfPackage}
+use Rattle.cargo_lock_merge_core.specs.Merge.{OfReplacement, OfSource, OfVersion, Triple}
 use Rattle.cargo_lock_merge_core.specs.Placed.{PlacedData}
 
 -- the package with its places renamed
@@ -25,12 +26,14 @@ rename_triple f s = record {
   theirs = rename_all f s.theirs;
 }
 
--- the conflict with its place renamed
-abbrev pub rename_conflict : {P Q : Type 0} → (P → Q) → ConflictData P → ConflictData Q
-rename_conflict f (OfPackage p) = OfPackage (f p)
-rename_conflict f (OfChecksum p) = OfChecksum (f p)
-rename_conflict f (OfReplacement p) = OfReplacement (f p)
-rename_conflict f (OfSource g) = OfSource g
+-- the matter with its place renamed
+abbrev pub rename_matter : {P Q : Type 0} → (P → Q) → MatterData P → MatterData Q
+rename_matter f (OfPackage p) = OfPackage (f p)
+rename_matter f (OfChecksum p) = OfChecksum (f p)
+rename_matter f (OfReplacement p) = OfReplacement (f p)
+rename_matter f (OfSource g) = OfSource g
+rename_matter f (OfVersion p) = OfVersion (f p)
+rename_matter f (OfLostChecksum p) = OfLostChecksum (f p)
 
 -- the place is that of a package of the list, or a package refers to it
 abbrev pub Has : {P : Type 0} → List (PlacedData P) → P → Type 0

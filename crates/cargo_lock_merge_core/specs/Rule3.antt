@@ -24,6 +24,19 @@ IsMergedValue b (Some o) None x = x ≡ o
 IsMergedValue b None (Some t) x = x ≡ t
 IsMergedValue b (Some o) (Some t) x = IsAgreed b o t x
 
+-- one of the three is this value
+abbrev pub IsOneOf : {X : Type 0} → Option X → Option X → Option X → X → Type 0
+IsOneOf b o t x = (b ≡ Some x) ⊎ ((o ≡ Some x) ⊎ (t ≡ Some x))
+
+-- the only value of three that may be absent, or none is there
+abbrev pub IsOnlyValue : {X : Type 0} → Option X → Option X → Option X → Option X → Type 0
+IsOnlyValue {X = X} b o t None = (x : X) → ¬ IsOneOf b o t x
+IsOnlyValue {X = X} b o t (Some x) = IsOneOf b o t x × ((y : X) → IsOneOf b o t y → y ≡ x)
+
+-- two of the three are values that differ
+abbrev pub HaveTwoValues : {X : Type 0} → Option X → Option X → Option X → Type 0
+HaveTwoValues {X = X} b o t = (x : X) × (y : X) × IsOneOf b o t x × IsOneOf b o t y × (x ≢ y)
+
 -- both sides have such a value, and are in conflict about it
 abbrev pub IsDisputed : {X : Type 0} → X → Option X → Option X → Type 0
 IsDisputed b (Some o) (Some t) = IsInConflict b o t

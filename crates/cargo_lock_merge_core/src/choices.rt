@@ -5,13 +5,15 @@ ghost use Rattle.std.specs.Prelude.{if◌then◌else◌};
 ghost use Rattle.std.specs.Bool.{Decides};
 ghost use Rattle.cargo_lock_parts.specs.declared.error.Error.TheVariants.{Memory};
 ghost use Rattle.cargo_lock_merge_core.specs.Agreed.{AreEqual, IsSideAt, IsUsable, IsVersionSide};
-ghost use Rattle.cargo_lock_merge_core.specs.Choices.{AreAbove, AreOfGit, HasLowerVersion};
+ghost use Rattle.cargo_lock_merge_core.specs.Choices.{AreAbove, AreOfGit, AreOfMember, AreUpdated};
+ghost use Rattle.cargo_lock_merge_core.specs.Choices.{HasLowerVersion, IsVersionDecisive};
 ghost use Rattle.cargo_lock_merge_core.specs.Commits.{Lockfiles};
 ghost use Rattle.cargo_lock_merge_core.specs.Numbered.{IsChoice, data_if, placed_data};
 ghost use Rattle.cargo_lock_merge_core.specs.Placed.{PlacedData, key, key_if};
+ghost use Rattle.cargo_lock_merge_core.specs.Rule3.{IsInConflict};
 
 use crate::commits::Commits;
-use crate::placed::{Placed, are_same, cmp_versions, is_of_git, is_of_registry};
+use crate::placed::{Placed, are_same, cmp_versions, has_no_source, is_of_git, is_of_registry};
 use crate::rule3::{Equal, Side, agreed_side};
 use cargo_lock_parts::error::Result;
 use cargo_lock_parts::package::Package;
@@ -144,6 +146,18 @@ fn equality<'a, 'd>(
     }
 }
 
+/// Whether both sides changed the identity of the package, each to another one.
+pub fn are_disputed<'a, 'd>(
+    base: Option<Placed<'a, 'd>>,
+    ours: Placed<'a, 'd>,
+    theirs: Placed<'a, 'd>,
+) -> bool
+    ensures { Decides result (IsInConflict (key_if (data_if base.entry))
+        (Some (key (placed_data ours.entry))) (Some (key (placed_data theirs.entry)))) }
+{
+    agreed_side(equality(base, ours, theirs)).is_none()
+}
+
 /// Whether the package has the identity of that of the base, if there is one.
 pub fn is_same_as<'a, 'd>(base: Option<Placed<'a, 'd>>, package: Placed<'a, 'd>) -> bool
     ensures { Decides result
@@ -155,8 +169,7 @@ pub fn is_same_as<'a, 'd>(base: Option<Placed<'a, 'd>>, package: Placed<'a, 'd>)
     }
 }
 
-// The side with the greater version of a package of a registry, if both versions are above that of
-// the base.
+// The side with the greater version, where that decides.
 fn choose_by_version<'a, 'd>(
     base: Option<Placed<'a, 'd>>,
     ours: Placed<'a, 'd>,
@@ -165,16 +178,57 @@ fn choose_by_version<'a, 'd>(
     ensures { IsVersionSide (data_if base.entry) (placed_data ours.entry) (placed_data theirs.entry)
         result }
 {
-    if !is_of_registry(ours.package) || !is_of_registry(theirs.package) {
-        return None;
-    }
-    if !are_above(base, ours, theirs) {
+    if !is_version_decisive(base, ours, theirs) {
         return None;
     }
     match cmp_versions(ours.package, theirs.package) {
         Ordering::Less => Some(Side::Theirs),
         Ordering::Equal => None,
         Ordering::Greater => Some(Side::Ours),
+    }
+}
+
+// Whether the greater version decides: of a package of a registry, if both versions are above that
+// of the base, or of a member of the workspace.
+fn is_version_decisive<'a, 'd>(
+    base: Option<Placed<'a, 'd>>,
+    ours: Placed<'a, 'd>,
+    theirs: Placed<'a, 'd>,
+) -> bool
+    ensures { Decides result (IsVersionDecisive (data_if base.entry) (placed_data ours.entry)
+        (placed_data theirs.entry)) }
+{
+    are_updated(base, ours, theirs) || are_of_member(base, ours, theirs)
+}
+
+// Whether both packages are of a registry, with versions above that of the base.
+fn are_updated<'a, 'd>(
+    base: Option<Placed<'a, 'd>>,
+    ours: Placed<'a, 'd>,
+    theirs: Placed<'a, 'd>,
+) -> bool
+    ensures { Decides result (AreUpdated (data_if base.entry) (placed_data ours.entry)
+        (placed_data theirs.entry)) }
+{
+    is_of_registry(ours.package) && is_of_registry(theirs.package) && are_above(base, ours, theirs)
+}
+
+/// Whether all three have the package, and none has a source for it.
+pub fn are_of_member<'a, 'd>(
+    base: Option<Placed<'a, 'd>>,
+    ours: Placed<'a, 'd>,
+    theirs: Placed<'a, 'd>,
+) -> bool
+    ensures { Decides result (AreOfMember (data_if base.entry) (placed_data ours.entry)
+        (placed_data theirs.entry)) }
+{
+    match base {
+        Some(base) => {
+            has_no_source(base.package)
+                && has_no_source(ours.package)
+                && has_no_source(theirs.package)
+        }
+        None => false,
     }
 }
 

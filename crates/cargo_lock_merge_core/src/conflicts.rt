@@ -9,14 +9,17 @@ ghost use Rattle.cargo_lock_merge_core.specs.Conflicts.{now_if};
 ghost use Rattle.cargo_lock_merge_core.specs.Disputes.{HasDispute};
 ghost use Rattle.cargo_lock_merge_core.specs.Merge.{Triple, lockfiles_of};
 ghost use Rattle.cargo_lock_merge_core.specs.Merged.{HasPlan};
-ghost use Rattle.cargo_lock_merge_core.specs.Numbered.{data_if};
+ghost use Rattle.cargo_lock_merge_core.specs.Choices.{HasLostChecksum, HasTwoNewVersions};
+ghost use Rattle.cargo_lock_merge_core.specs.Numbered.{data_if, placed_data};
 
+use crate::choices::{are_disputed, are_of_member};
 use crate::commits::{Commits, SourceCommits};
 use crate::disputes::disputed;
 use crate::entry::{Chosen, Entry};
 use crate::placed::Placed;
 use crate::plan::Plan;
 use crate::rows::Row;
+use crate::values::{has_checksum, lacks_checksum};
 use cargo_lock_parts::error::Result;
 use cargo_lock_parts::package::Package;
 use lists::marks::is_marked;
@@ -33,6 +36,12 @@ pub enum Kind {
 
     /// Its replacement.
     Replacement,
+
+    /// The version of a member of the workspace, which both sides changed. This is no conflict.
+    Version,
+
+    /// A checksum that a side lost. This is no conflict.
+    LostChecksum,
 }
 
 /// A conflict about what is at a place.
@@ -171,8 +180,32 @@ fn has_conflict<'a, 'd>(
         (None, Kind::Package) => Ok(is_undisputed(commits, &entry.row)?),
         (Some(chosen), Kind::Checksum) => Ok(chosen.checksum.is_none()),
         (Some(chosen), Kind::Replacement) => Ok(chosen.replacement.is_none()),
+        (Some(_), Kind::Version) => Ok(have_two_new_versions(&entry.row)),
+        (Some(chosen), Kind::LostChecksum) => Ok(is_checksum_lost(&entry.row, chosen.package)),
         _ => Ok(false),
     }
+}
+
+// Whether all three have a member of the workspace, in versions that differ.
+fn have_two_new_versions(row: &Row) -> bool
+    ensures { Decides result (HasTwoNewVersions (data_if row.now.base) (data_if row.now.ours)
+        (data_if row.now.theirs)) }
+{
+    match (row.ours, row.theirs) {
+        (Some(ours), Some(theirs)) => {
+            are_of_member(row.base, ours, theirs) && are_disputed(row.base, ours, theirs)
+        }
+        _ => false,
+    }
+}
+
+// Whether the base has a checksum of the chosen package, and a side has it no more.
+fn is_checksum_lost(row: &Row, chosen: Placed) -> bool
+    ensures { Decides result (HasLostChecksum (data_if row.now.base) (data_if row.now.ours)
+        (data_if row.now.theirs) (placed_data chosen.entry)) }
+{
+    has_checksum(chosen, row.base)
+        && (lacks_checksum(chosen, row.ours) || lacks_checksum(chosen, row.theirs))
 }
 
 // Whether the sides are in conflict about the commit of no source of the row.

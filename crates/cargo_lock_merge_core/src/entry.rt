@@ -19,6 +19,7 @@ use crate::rows::Row;
 use crate::rule3::Side;
 use crate::values::{choose_checksum, choose_replacement};
 use cargo_lock_parts::error::Result;
+use cargo_lock_parts::package::Checksum;
 use std::alloc::{AllocError, Global};
 
 /// The package that is chosen at a place.
@@ -27,8 +28,8 @@ pub struct Chosen<'a, 'd> {
     /// The package of a side.
     pub package: Placed<'a, 'd>,
 
-    /// The side whose checksum it has. `None` if the sides are in conflict about it.
-    pub checksum: Option<Side>,
+    /// Its checksum, if it has one. `None` if the sides are in conflict about it.
+    pub checksum: Option<Option<Checksum>>,
 
     /// The side whose replacement it has. `None` if the sides are in conflict about it.
     pub replacement: Option<Side>,
@@ -149,9 +150,23 @@ fn replacement_if<'a, 'd>(row: &Row<'a, 'd>, chosen: Option<Chosen<'a, 'd>>) -> 
     requires { MatchOption chosen (Unit {0}) (λ c. HasValues row.now c) }
     ensures { (d : ℕ) → (result ≡ Some d) ↔ IsReplacementIf row.now chosen.entry d }
 {
-    match chosen?.replacement? {
-        Side::Ours => row.ours?.replacement,
-        Side::Theirs => row.theirs?.replacement,
+    match chosen {
+        Some(chosen) => replacement_of(row, chosen),
+        None => None,
+    }
+}
+
+// The place of the replacement of the chosen package.
+fn replacement_of<'a, 'd>(row: &Row<'a, 'd>, chosen: Chosen<'a, 'd>) -> Option<usize>
+    requires { HasValues row.now chosen }
+    ensures { (d : ℕ) → (result ≡ Some d) ↔ IsReplacementIf row.now (Some chosen.entry) d }
+{
+    match chosen.replacement {
+        Some(side) => match package_of(row, side) {
+            Some(package) => package.replacement,
+            None => None,
+        },
+        None => None,
     }
 }
 

@@ -15,7 +15,7 @@ ghost use Rattle.cargo_lock_merge_core.specs.LawsOfMerges.{MergeIsUnique, MergeO
 ghost use Rattle.cargo_lock_merge_core.specs.LawsOfMerges.{MergeOfListsIsStable, MergeWithBase};
 ghost use Rattle.cargo_lock_merge_core.specs.LawsOfMerges.{MergeWithBaseAgrees, MergeWithItself};
 ghost use Rattle.cargo_lock_merge_core.specs.LawsOfMerges.{PlacedAreLockfile, UnmovedAreOfSides};
-ghost use Rattle.cargo_lock_merge_core.specs.Origins.{ChecksumsAreOfSides, MergeOfListsWithBase};
+ghost use Rattle.cargo_lock_merge_core.specs.Origins.{ChecksumsAreListed, MergeOfListsWithBase};
 ghost use Rattle.cargo_lock_merge_core.specs.Origins.{MergeOfListsWithItself};
 
 /// A merge by numbers of places is a merge by the places, where no two places have one number.
@@ -113,7 +113,7 @@ pub fn merge_with_base()
     ensures { MergeWithBase }
 {}
 
-/// That is so only where no commit has two versions of a package.
+/// That is so only where no commit has two versions of a package, and each checksum is kept.
 pub fn merge_with_base_agrees()
     ensures { MergeWithBaseAgrees }
 {}
@@ -164,9 +164,9 @@ pub fn listings_are_symmetric()
     ensures { ListingsAreSymmetric }
 {}
 
-/// Each merged checksum is that of a side's package of the same identity.
-pub fn checksums_are_of_sides()
-    ensures { ChecksumsAreOfSides }
+/// A merged package has a checksum exactly if one of the three lists has it for the same identity.
+pub fn checksums_are_listed()
+    ensures { ChecksumsAreListed }
 {}
 
 /// The same as `merge_with_base`, of lists of packages.

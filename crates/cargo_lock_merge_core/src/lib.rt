@@ -1,27 +1,27 @@
 //! The core of a merge of lockfiles: three finite maps from places to packages, and their merge.
 #![tactic(auto)]
 
-pub mod choices;
+mod choices;
 pub mod commits;
 pub mod conflicts;
 pub mod disputes;
 pub mod entry;
 pub mod laws;
 mod linked;
-pub mod member_counts;
+mod member_counts;
 pub mod merged;
 pub mod moved;
 pub mod numbered;
-pub mod numbers;
-pub mod place;
+mod numbers;
+mod place;
 pub mod placed;
 pub mod plan;
-pub mod reach;
-pub mod references;
+mod reach;
+mod references;
 pub mod refusal;
 mod repositories;
 pub mod rows;
 pub mod rule3;
-pub mod sets;
+mod sets;
 pub mod triple;
-pub mod values;
+mod values;

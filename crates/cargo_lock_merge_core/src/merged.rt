@@ -131,17 +131,11 @@ fn values_of<'a, 'd>(entry: &Entry<'a, 'd>) -> Option<Values<'a>>
         → MatchOption result (IsUnsettled entry.now.chosen) (AreValues entry.now) }
 {
     let chosen = entry.chosen?;
-    let with_checksum = package_of(&entry.row, chosen.checksum?)?;
+    let checksum = chosen.checksum?;
     let with_replacement = package_of(&entry.row, chosen.replacement?)?;
     Some(Values {
         package: chosen.package.package,
-        checksum: checksum_of(with_checksum.package),
+        checksum,
         replacement: with_replacement.replacement,
     })
-}
-
-fn checksum_of(package: &Package) -> Option<Checksum>
-    ensures { option_map digest_of result ≡ «package».now.checksum }
-{
-    package.checksum
 }

@@ -1,6 +1,6 @@
 //! Packages at places.
 
-ghost use Rattle.std.specs.Prelude.{◌≡◌};
+ghost use Rattle.std.specs.Prelude.{◌≡◌, None};
 ghost use Rattle.std.specs.Bool.{Decides};
 ghost use Rattle.cargo_lock_parts.specs.Identity.{identity_of};
 ghost use Rattle.cargo_lock_parts.specs.IdentityOrder.{identity_cmp, is_same_identity, version_cmp};
@@ -58,6 +58,13 @@ pub fn is_of_git(package: &Package) -> bool
         Some(source) => source.is_git(),
         None => false,
     }
+}
+
+/// Whether the package has no source: a member of the workspace, or a package at a path.
+pub fn has_no_source(package: &Package) -> bool
+    ensures { Decides result («package».now.source ≡ None) }
+{
+    package.source.is_none()
 }
 
 /// Whether the package is of a registry.

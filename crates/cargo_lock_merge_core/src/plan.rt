@@ -17,12 +17,11 @@ ghost use Rattle.lists.specs.Marks.{IsMarked};
 
 use crate::commits::Commits;
 use crate::entry::{Entry, entry_at};
-use crate::placed::Placed;
+use crate::placed::{Placed, has_no_source};
 use crate::reach::{Node, reached};
 use crate::rows::{Row, rows};
 use crate::rule3::keeps;
 use cargo_lock_parts::error::Result;
-use cargo_lock_parts::package::Package;
 use std::alloc::{AllocError, Global};
 
 /// What a merge has at each place, in the order of the places, and which of them are reached.
@@ -139,10 +138,4 @@ fn is_member(package: Option<Placed>) -> bool
         Some(package) => has_no_source(package.package),
         None => false,
     }
-}
-
-fn has_no_source(package: &Package) -> bool
-    ensures { Decides result («package».now.source ≡ None) }
-{
-    package.source.is_none()
 }

@@ -8,7 +8,7 @@ ghost use Rattle.cargo_lock_merge_core.specs.Choices.{Counts, DependsOn, IsDepen
 ghost use Rattle.cargo_lock_merge_core.specs.Numbered.{HasAscending, data_if, placed_data};
 
 use crate::choices::is_same_as;
-use crate::placed::{Placed, are_same};
+use crate::placed::{Placed, are_same, has_no_source};
 use crate::sets::{all_places, merge_places};
 use std::alloc::{AllocError, Global};
 
@@ -70,7 +70,8 @@ fn dependencies_of_both<'a, 'd>(
     }
 }
 
-// Whether the package of a side counts: it has the identity of the chosen one or that of the base.
+// Whether the package of a side counts: it has the identity of the chosen one or that of the base, or
+// no source.
 fn counts<'a, 'd>(
     base: Option<Placed<'a, 'd>>,
     chosen: Placed<'a, 'd>,
@@ -79,7 +80,13 @@ fn counts<'a, 'd>(
     ensures { Decides result (Counts (data_if base.entry) (placed_data chosen.entry)
         (placed_data «package».entry)) }
 {
-    are_same(package.package, chosen.package) || is_same_as(base, package)
+    if are_same(package.package, chosen.package) {
+        return true;
+    }
+    if is_same_as(base, package) {
+        return true;
+    }
+    has_no_source(package.package)
 }
 
 /// The places that a package of either side depends on, in ascending order. Fails when out of

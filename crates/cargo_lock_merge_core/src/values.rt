@@ -1,35 +1,92 @@
 //! The checksum and the replacement of a merged package.
 
-ghost use Rattle.std.specs.Prelude.{◌≡◌};
+ghost use Rattle.std.specs.Prelude.{◌≡◌, None, is_some, option_map};
 ghost use Rattle.std.specs.Bool.{Decides};
-ghost use Rattle.cargo_lock_merge_core.specs.Agreed.{AreEqual};
-ghost use Rattle.cargo_lock_merge_core.specs.Choices.{IsOfSide, checksum_if, if_same, replacement_if};
+ghost use Rattle.cargo_lock_merge_core.specs.Agreed.{AreEqual, IsOnlyOf};
+ghost use Rattle.cargo_lock_merge_core.specs.Choices.{IsOfSide, HasNoChecksumFor, checksum_if, if_same};
+ghost use Rattle.cargo_lock_merge_core.specs.Choices.{replacement_if};
 ghost use Rattle.cargo_lock_merge_core.specs.Numbered.{IsChecksumChoice, IsReplacementChoice};
 ghost use Rattle.cargo_lock_merge_core.specs.Numbered.{data_if, placed_data};
+ghost use Rattle.cargo_lock_parts.specs.Checksum.{digest_of};
 
 use crate::placed::{Placed, are_same};
 use crate::rule3::{Equal, Side, agreed_side};
 use cargo_lock_parts::package::{Checksum, Package};
 
-/// The side whose checksum the chosen package has after a merge. `None` if the sides are in
-/// conflict about it.
+/// The checksum that the chosen package has after a merge, if it has one: the only one that packages
+/// with its identity have. `None` if they have two.
 pub fn choose_checksum<'a, 'd>(
     base: Option<Placed<'a, 'd>>,
     ours: Option<Placed<'a, 'd>>,
     theirs: Option<Placed<'a, 'd>>,
     chosen: Placed<'a, 'd>,
-) -> Option<Side>
-    requires { IsOfSide (data_if ours) (data_if theirs) (placed_data chosen) }
+) -> Option<Option<Checksum>>
     ensures { IsChecksumChoice (data_if base.entry) (data_if ours.entry) (data_if theirs.entry)
-        (placed_data chosen.entry) result }
+        (placed_data chosen.entry) (option_map (option_map digest_of) result) }
 {
-    let base = if_same(chosen, base);
-    match (if_same(chosen, ours), if_same(chosen, theirs)) {
-        (Some(ours), Some(theirs)) => agreed_side(equal_checksums(base, ours, theirs)),
-        (Some(_), None) => Some(Side::Ours),
-        (None, Some(_)) => Some(Side::Theirs),
-        (None, None) => None,
+    let base = checksum_if(if_same(chosen, base));
+    let ours = checksum_if(if_same(chosen, ours));
+    let theirs = checksum_if(if_same(chosen, theirs));
+    match only_checksum(base, ours) {
+        Some(first) => only_checksum(first, theirs),
+        None => None,
     }
+}
+
+// The only checksum of two that may be absent, if there is one. `None` if they differ.
+fn only_checksum(one: Option<Checksum>, other: Option<Checksum>) -> Option<Option<Checksum>>
+    ensures { IsOnlyOf (option_map digest_of one) (option_map digest_of other)
+        (option_map (option_map digest_of) result) }
+{
+    match (one, other) {
+        (None, other) => Some(other),
+        (one, None) => Some(one),
+        (Some(one), Some(other)) => if are_equal(one, other) {
+            Some(Some(one))
+        } else {
+            None
+        },
+    }
+}
+
+fn are_equal(one: Checksum, other: Checksum) -> bool
+    ensures { Decides result (digest_of one ≡ digest_of other) }
+{
+    let Checksum::Sha256(one) = one;
+    let Checksum::Sha256(other) = other;
+    one == other
+}
+
+/// Whether the package is there, has the identity of the chosen one, and a checksum.
+pub fn has_checksum<'a, 'd>(chosen: Placed<'a, 'd>, package: Option<Placed<'a, 'd>>) -> bool
+    ensures { result ≡ is_some (checksum_if (if_same (placed_data chosen.entry)
+        (data_if «package».entry))) }
+{
+    checksum_if(if_same(chosen, package)).is_some()
+}
+
+/// Whether the package is there, has the identity of the chosen one, and no checksum.
+pub fn lacks_checksum<'a, 'd>(chosen: Placed<'a, 'd>, package: Option<Placed<'a, 'd>>) -> bool
+    ensures { Decides result (HasNoChecksumFor (placed_data chosen.entry) (data_if «package».entry)) }
+{
+    match if_same(chosen, package) {
+        Some(package) => has_no_checksum(package.package),
+        None => false,
+    }
+}
+
+fn has_no_checksum(package: &Package) -> bool
+    ensures { Decides result («package».now.checksum ≡ None) }
+{
+    package.checksum.is_none()
+}
+
+// The checksum of the package, if there is one and it has one.
+fn checksum_if(package: Option<Placed>) -> Option<Checksum>
+    ensures { option_map digest_of result ≡ checksum_if (data_if «package».entry) }
+{
+    let package = package?.package;
+    package.checksum
 }
 
 /// The side whose replacement the chosen package has after a merge. `None` if the sides are in
@@ -63,50 +120,6 @@ fn if_same<'a, 'd>(
     match package {
         Some(package) if are_same(package.package, chosen.package) => Some(package),
         _ => None,
-    }
-}
-
-// Which of the checksums are equal.
-fn equal_checksums<'a, 'd>(
-    base: Option<Placed<'a, 'd>>,
-    ours: Placed<'a, 'd>,
-    theirs: Placed<'a, 'd>,
-) -> Equal
-    ensures { AreEqual (checksum_if (data_if base.entry)) ours.entry.package.now.checksum
-        theirs.entry.package.now.checksum result }
-{
-    Equal {
-        sides: are_equal(ours.package, theirs.package),
-        ours: is_checksum_of(base, ours),
-        theirs: is_checksum_of(base, theirs),
-    }
-}
-
-// Whether the package has the checksum of that of the base, which is none if that is absent.
-fn is_checksum_of<'a, 'd>(base: Option<Placed<'a, 'd>>, package: Placed<'a, 'd>) -> bool
-    ensures { Decides result
-        («package».entry.package.now.checksum ≡ checksum_if (data_if base.entry)) }
-{
-    match base {
-        Some(base) => are_equal(package.package, base.package),
-        None => has_no_checksum(package.package),
-    }
-}
-
-fn has_no_checksum(package: &Package) -> bool
-    ensures { Decides result («package».now.checksum ≡ None) }
-{
-    package.checksum.is_none()
-}
-
-// Whether two packages have one checksum, or none.
-fn are_equal(one: &Package, other: &Package) -> bool
-    ensures { Decides result (one.now.checksum ≡ other.now.checksum) }
-{
-    match (&one.checksum, &other.checksum) {
-        (None, None) => true,
-        (Some(Checksum::Sha256(one)), Some(Checksum::Sha256(other))) => one == other,
-        _ => false,
     }
 }
 

@@ -19,7 +19,7 @@ pub mod why_document;
 pub use crate::answers::Answers;
 pub use crate::chain::{chains_of_each, shortest_chain};
 pub use crate::duplicates_document::groups_json;
-pub use crate::lines::{Answer, AnswerText, needers_of_chain};
+pub use crate::lines::{Answer, AnswerText, Needers, needers_of_chain};
 pub use crate::listing::{Row, Rows};
 pub use crate::need::needers;
 pub use crate::reason::{why, why_each};

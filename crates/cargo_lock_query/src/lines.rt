@@ -94,9 +94,10 @@ pub(crate) fn packages_at<'a>(
     Ok(packages)
 }
 
-// Packages of a list, each of which needs the one of the line before.
+/// Displays packages of a list, each of which needs the one of the line before: a newline and
+/// `  needed by NAME VERSION` for each.
 #[derive(Clone, Copy)]
-struct Needers<'a>(&'a Indexed<'a, Package>, &'a Vec<&'a Package>);
+pub struct Needers<'a>(pub &'a Indexed<'a, Package>, pub &'a Vec<&'a Package>);
 
 impl fmt::Display for Needers<'_> {
     ghost use Rattle.std.specs.Prelude.{Some, map};

@@ -113,17 +113,10 @@ fn is_precise(source: &Option<SourceId>, text: &str) -> bool
 fn is_checksum(checksum: &Option<Checksum>, text: &str) -> bool
     ensures { result ≡ has_this_checksum (option_map digest_of checksum.now) text.now }
 {
-    match checksum {
-        Some(checksum) => is_digest(&digest(checksum), text),
+    match checksum.as_ref().and_then(Checksum::as_sha256) {
+        Some(digest) => is_digest(&digest, text),
         None => false,
     }
-}
-
-fn digest(checksum: &Checksum) -> [u8; 32]
-    ensures { result ≡ digest_of checksum.now }
-{
-    let Checksum::Sha256(digest) = *checksum;
-    digest
 }
 
 // Whether a text is the lower-case text of a digest.

@@ -1,7 +1,7 @@
 -- The outcomes of several arguments: what is read of them, and how much is counted.
-use Rattle.std.proofs.Common.{◌≡◌, ◌∙◌, ◌+◌, ◌-◌, ◌<◌, ◌≤◌, ◌++◌, ◌∷◌, [], ◌&&◌, ◌^◌, ℕ, Bool, true, false, List, None, Option, Some, Result, Ok, Err, ap, append-nil, arith, length, length-append, map, min, refl, sym}
+use Rattle.std.proofs.Common.{◌≡◌, ◌∙◌, ◌+◌, ◌-◌, ◌<◌, ◌≤◌, ◌++◌, ◌∷◌, [], ◌^◌, ℕ, true, false, List, None, Option, Some, Result, Ok, Err, ap, append-nil, arith, length, length-append, map, min, refl, sym}
 use Rattle.std.specs.Prelude.{IfErr, IfOk}
-use Rattle.std.specs.List.{AllZip, filter_map, list_all, sum_by}
+use Rattle.std.specs.List.{AllZip, sum_by}
 use Rattle.std.proofs.lemmas.Bool.{false≢true}
 use Rattle.std.proofs.lemmas.List.{map-append}
 use Rattle.std.proofs.lemmas.List.Elements.{filter_map-append}

@@ -27,14 +27,13 @@ use Rattle.cli_input.specs.declared.findings.Form.{Form}
 use Rattle.cli_input.specs.Json.{document_path}
 use Rattle.cli_input.specs.Limit.{IsReadInLimit}
 use Rattle.cli_input.specs.Told.{IsReportPath, IsToldAs, LockfileFound, PrintsFound, SubjectData}
-use Rattle.cli_input.specs.Told.{found_in_lockfile}
-use Rattle.cli_input.specs.Told.{subject_of_lockfile}
+use Rattle.cli_input.specs.Told.{IsNameOfFile, found_in_lockfile, given_name, subject_of_lockfile}
 use Rattle.cli_support.specs.Input.{given_path_in}
 
 -- ---- a lockfile
 
 -- the names of a lockfile: the argument for it, its path in reports, and the path before its lines,
--- where there are several lockfiles
+-- where there are several lockfiles or `--name` gives it
 pub record NamedData : Type 0 where
   pub argument : List ℕ
   pub path : List ℕ
@@ -142,23 +141,32 @@ PrintsText found n text counts old new failure success = (c : CheckedData)
     × IsCheckedText found n text c × PrintsFound found (c.found ∷ []) old new
     × IsFindingsStatus c.count failure success × (counts ≡ counts_line c.packages c.count)
 
--- the same of the lockfile of an argument; what is printed is of some text, since no contract says
--- what a file holds
+-- the same of the lockfile of an argument, behind what `--name` says of standard input; what is printed
+-- is of some text, since no contract says what a file holds
 abbrev pub PrintsCheckOf : Found → List ℕ → List ℕ → Option (List ℕ) → Option (List ℕ) → Type 0
     → Type 0 → Type 0
 PrintsCheckOf found argument counts old new failure success = (text path : List ℕ)
-    × IsReportPath found argument path
-    × PrintsText found (record { argument = argument; path = path; prefix = None }) text counts
-    old new failure success
+    × IsReportPath found argument path × ¬ IsNameOfFile found argument
+    × PrintsText found (record { argument = argument; path = path; prefix = given_name found })
+    text counts old new failure success
 
 -- ---- several lockfiles
+
+-- the names of one of several lockfiles: before its lines is what `--name` says of standard input, and
+-- otherwise the argument
+abbrev pub named_among : Found → List ℕ → List ℕ → NamedData
+named_among found argument path = record {
+  argument = argument;
+  path = path;
+  prefix = Some (unwrap_or (given_name found) argument);
+}
 
 -- what comes of an argument: this is found in some text, or no lockfile is read
 abbrev pub IsOutcome : Found → List ℕ → Option CheckedData → Type 0
 IsOutcome found argument None = Unit {0}
 IsOutcome found argument (Some c) = (text path : List ℕ) × IsReportPath found argument path
-    × IsCheckedText found (record { argument = argument; path = path; prefix = Some argument })
-    text c
+    × (¬ IsNameOfFile found argument)
+    × IsCheckedText found (named_among found argument path) text c
 
 -- what is found in the lockfiles that are read
 abbrev pub read_of : List (Option CheckedData) → List CheckedData

@@ -16,7 +16,7 @@ use Rattle.cli_support.specs.Destination.{TakesOutput}
 -- a failure
 abbrev pub PrintsMergeOf : Found → LockfileMerge → Option (List ℕ) → Option (List ℕ) → Type 0
     → Type 0 → Type 0
-PrintsMergeOf found (Merged lockfile text moved) old new failure success =
+PrintsMergeOf found (Merged lockfile text remarks) old new failure success =
     TakesOutput (first_value found (codes "output")) (string_bytes text) old new × success
 PrintsMergeOf found (InConflict conflicts) old new failure success = Keeps old new × failure
 

@@ -1,5 +1,5 @@
 //! The command `check`: what is wrong with lockfiles.
-ghost use Rattle.std.specs.Prelude.{◌≡◌, IfOk, None, map, string_bytes};
+ghost use Rattle.std.specs.Prelude.{◌≡◌, IfOk, map, option_map, string_bytes};
 ghost use Rattle.std.specs.Process.{exit_status};
 ghost use Rattle.clap.specs.Matches.{found_of};
 ghost use Rattle.cli.specs.Check.{IsFindingsStatus, PrintsCheck, PrintsCheckOf};
@@ -13,7 +13,7 @@ use crate::several::check_several;
 use clap::{Arg, ArgAction, ArgMatches, Command};
 use cli_input::findings::{asked_form, print_told};
 use cli_input::load::text_at;
-use cli_input::subject::report_path;
+use cli_input::subject::{given_name, report_path};
 use cli_support::{Fault, words};
 use std::alloc::{AllocError, Global};
 use std::env::Env;
@@ -55,8 +55,8 @@ and where all of them read, one for each reference that is of nothing:
   reference: PACKAGE depends on NAME, which is named without a version
   reference: PACKAGE is replaced by NAME, which is named without a version
 
-Of several lockfiles each line has the path before it, as `PATH: order: ..`, and with --json each has \
-a line of JSON.
+Of several lockfiles, and with --name, each line has the path before it, as `PATH: order: ..`. With \
+--json each lockfile has a line of JSON.
 
 On standard error is a line of counts, where anything is found or it is a terminal. The status is \
 1 where anything is found, and 2 where a lockfile cannot be read for another reason.";
@@ -64,13 +64,27 @@ On standard error is a line of counts, where anything is found or it is a termin
 /// The paths, as help shows them.
 const PATHS_HELP: &str = "Lockfiles in place of that of --file, - for standard input";
 
+/// The name of standard input, as help shows it.
+const NAME_HELP: &str =
+    "The path of standard input before lines, and in a report in place of `Cargo.lock`";
+
 /// The parser of this command: its options and the paths of lockfiles.
 pub(crate) fn command<'a>(alloc: Global) -> Result<Command<'a>, AllocError> {
     let command = with_lockfile(alloc)?;
     command
         .arg(words::format(alloc)?)?
-        .arg(words::name(alloc)?)?
+        .arg(name(alloc)?)?
         .arg(paths(alloc)?)
+}
+
+/// The option for the path of standard input. In a document standard input has none.
+fn name<'a>(alloc: Global) -> Result<Arg<'a>, AllocError> {
+    Arg::new(alloc, "name")
+        .long("name")
+        .value_name("PATH")
+        .help(NAME_HELP)
+        .action(ArgAction::Set)
+        .conflicts_with("json")
 }
 
 /// The parser with the options for one lockfile, and for a document.
@@ -136,21 +150,25 @@ fn check_one<R: Files + Input + Env + AllocGlobal, W: Write>(
         (status_in ended ≡ ExitCode.FAILURE) (status_in ended ≡ ExitCode.SUCCESS)) }
     ensures end { IfOk result IsEnd }
 {
+    let name = given_name(options, argument)?;
     let path = report_path(rt, options, argument)?;
-    let text = text_at(rt, options, argument)?;
-    let named = named_alone(argument, path.as_str());
+    let text = text_at(rt, options, argument, name.unwrap_or(argument))?;
+    let named = named_alone(argument, path.as_str(), name);
     print_check(rt.alloc(), options, named, text.as_str(), out)
 }
 
-/// The names of a lockfile that is the only one, with nothing before its lines.
-fn named_alone<'a>(argument: &'a str, path: &'a str) -> Named<'a>
-    ensures { spec.named_of result
-        ≡ record { argument = argument.now; path = path.now; prefix = None } }
+/// The names of a lockfile that is the only one, with this before its lines, if it is given.
+fn named_alone<'a>(argument: &'a str, path: &'a str, prefix: Option<&'a str>) -> Named<'a>
+    ensures { spec.named_of result ≡ record {
+      argument = argument.now;
+      path = path.now;
+      prefix = option_map (λ text. text.now) prefix.entry;
+    } }
 {
     Named {
         argument,
         path,
-        prefix: None,
+        prefix,
     }
 }
 

@@ -32,8 +32,15 @@ pub(crate) struct Named<'a> {
     /// The path, as reports have it.
     pub path: &'a str,
 
-    /// The path that comes before each line, where there are several lockfiles.
+    /// The path that comes before each line, where there are several lockfiles, or `--name` gives it.
     pub prefix: Option<&'a str>,
+}
+
+impl<'a> Named<'a> {
+    // What messages of faults call the lockfile.
+    fn in_messages(self) -> &'a str {
+        self.prefix.unwrap_or(self.argument)
+    }
 }
 
 /// What is found in lockfiles, as it is printed.
@@ -79,7 +86,7 @@ pub(crate) fn checked_text(
 {
     match allowed_lockfile(alloc, options, text) {
         Ok(Some(lockfile)) => checked_lockfile(alloc, form, named, text, &lockfile),
-        Ok(None) => Err(beyond_limit(alloc, named.argument)),
+        Ok(None) => Err(beyond_limit(alloc, named.in_messages())),
         Err(error) => checked_refused(alloc, form, named, text, error),
     }
 }
@@ -97,11 +104,11 @@ fn checked_refused(
         × IsCheckedTable (named_of named.entry) text.now c × IsCheckedOne form c checked) }
 {
     let Error::Parse(_) = &error else {
-        return Err(refusal(alloc, named.argument, text, error));
+        return Err(refusal(alloc, named.in_messages(), text, error));
     };
     match checked_table(alloc, form, named, text)? {
         Some(checked) => Ok(checked),
-        None => Err(refusal(alloc, named.argument, text, error)),
+        None => Err(refusal(alloc, named.in_messages(), text, error)),
     }
 }
 

@@ -17,7 +17,8 @@ ghost use Rattle.clap.specs.Matches.{found_of};
 ghost use Rattle.cli_support.specs.Status.{IsCommandNamed, IsFaultStatus};
 ghost use Rattle.cli.specs.Check.{IsFindingsStatus};
 ghost use Rattle.cli.specs.Commands.{Follows, FollowsMatches, IsCounting, TellsMore, name_of};
-ghost use Rattle.cli.specs.Ending.{IsCountedFor, IsEnd, status_in};
+ghost use Rattle.cli.specs.Counts as spec;
+ghost use Rattle.cli.specs.Ending.{IsCountedFor, IsEnd, counts_in, status_in};
 ghost use Rattle.cli.specs.declared.ending.Reader.TheVariants.{Person, Program};
 
 mod check;
@@ -67,8 +68,8 @@ pub fn run<R: Files + Input + Env + Clock + AllocGlobal, S: AsStr, W: Write, E: 
     run_for(rt, words, out, err, Reader::Program)
 }
 
-/// The same for this reader of `err`: a person is told by `check` and by `licenses` how much was
-/// looked at, also where nothing is found.
+/// The same for this reader of `err`: for a person `check` and `licenses` print the line of counts
+/// also where nothing is found.
 pub fn run_for<R: Files + Input + Env + Clock + AllocGlobal, S: AsStr, W: Write, E: Write>(
     rt: &R,
     words: &[S],
@@ -277,6 +278,8 @@ fn dispatch<R: Files + Input + Env + Clock + AllocGlobal, W: Write>(
 fn counted(alloc: Global, counts: licenses::Counts) -> Result<Ended, Fault>
     ensures status { IfOk result (λ ended. IsFindingsStatus counts.findings
         (status_in ended ≡ ExitCode.FAILURE) (status_in ended ≡ ExitCode.SUCCESS)) }
+    ensures counts { IfOk result (λ ended.
+        counts_in ended ≡ spec.counts_line counts.packages counts.findings) }
     ensures end { IfOk result IsEnd }
 {
     let line = counts_line(alloc, counts.packages, counts.findings)?;

@@ -10,7 +10,6 @@ ghost use Rattle.cli.specs.Merge.{triple_of_files};
 use crate::ending::Ended;
 use cargo_lock::{Error, Lockfile};
 use cargo_lock_merge::lockfiles::{LockfileMerge, MergeError, merge_lockfiles};
-use cargo_lock_merge::moved::moved_lines;
 use cargo_lock_merge::with_cargo_spelling;
 use clap::{ArgMatches, Command};
 use cli_input::load::{compared_lockfile, lockfile_without_packages};
@@ -26,6 +25,8 @@ use std::rt::Files;
 const MERGE_HELP: &str = "\
 Packages are merged by what they are, and not line by line. On standard error is a line for
   conflict: what both sides changed, each to something else; nothing is written
+  version: a member whose version both sides changed; the greater one is taken
+  alarm: a checksum that a side lost; it is kept
   moved: a dependency on a package that neither side has for it
 A BASE that is empty or not there is a lockfile without packages. No lockfile says whether a \
 requirement admits a version, so run `cargo metadata --locked` after a merge.
@@ -61,8 +62,9 @@ struct Three {
 
 /// Writes the merge of two lockfiles over a base into the output file, or to `out`. The status is
 /// then 0. Where the sides are in conflict nothing is written, and the status is 1. What standard
-/// error is to have comes with the status: a line for each conflict, or for each dependency that
-/// neither side has. Fails if a lockfile is not read or cannot be merged, and if the output fails.
+/// error is to have comes with the status: a line for each conflict, or for each version that was
+/// chosen, each checksum that a side lost, and each dependency that neither side has. Fails if a
+/// lockfile is not read or cannot be merged, and if the output fails.
 pub(crate) fn run<R: Files + Input + AllocGlobal, W: Write>(
     rt: &R,
     options: &ArgMatches<'_>,
@@ -176,8 +178,8 @@ fn put_merge<R: Files + AllocGlobal, W: Write>(
     ensures end { IfOk result IsEnd }
 {
     match merge {
-        LockfileMerge::Merged(_, text, moved) => {
-            let lines = moved_lines(rt.alloc(), &moved)?;
+        LockfileMerge::Merged(_, text, remarks) => {
+            let lines = remarks.lines(rt.alloc())?;
             put_own_out(rt, options, text.as_str(), out)?;
             Ok(Ended::WithLines(ExitCode::SUCCESS, lines))
         }

@@ -1,6 +1,6 @@
 //! The command `check` of several lockfiles.
 ghost use Rattle.std.specs.Prelude.{◌≡◌, ◌≢◌, ◌++◌, ◌∷◌, [], IfErr, IfOk, List, None, OnOk, Option};
-ghost use Rattle.std.specs.Prelude.{Some, length, map, string_bytes};
+ghost use Rattle.std.specs.Prelude.{Some, length, map, option_map, string_bytes, unwrap_or};
 ghost use Rattle.std.specs.List.{AllZip};
 ghost use Rattle.std.specs.Process.{exit_status};
 ghost use Rattle.clap.specs.Matches.{found_of};
@@ -17,7 +17,7 @@ use cargo_lock::Error;
 use clap::ArgMatches;
 use cli_input::findings::{Form, Told, asked_form, print_told};
 use cli_input::load::text_at;
-use cli_input::subject::report_path;
+use cli_input::subject::{given_name, report_path};
 use cli_support::Fault;
 use std::alloc::{AllocError, Global};
 use std::env::Env;
@@ -161,7 +161,8 @@ impl Checked {
     }
 }
 
-/// What is found in the lockfile at this path. Its lines have the path before them.
+/// What is found in the lockfile at this path. Its lines have the path before them, and those of
+/// standard input what `--name` says.
 fn checked_at<R: Files + Input + Env + AllocGlobal>(
     rt: &R,
     options: &ArgMatches<'_>,
@@ -172,12 +173,23 @@ fn checked_at<R: Files + Input + Env + AllocGlobal>(
         × IsOutcome (found_of options.now) argument.now (Some c)
         × IsCheckedOne form c checked) }
 {
+    let name = name_among(given_name(options, argument)?, argument);
     let path = report_path(rt, options, argument)?;
-    let text = text_at(rt, options, argument)?;
+    let text = text_at(rt, options, argument, name)?;
     let named = Named {
         argument,
         path: path.as_str(),
-        prefix: Some(argument),
+        prefix: Some(name),
     };
     checked_text(rt.alloc(), options, form, named, text.as_str())
+}
+
+/// The name of one of several lockfiles: what `--name` says, or else the argument.
+fn name_among<'a>(given: Option<&'a str>, argument: &'a str) -> &'a str
+    ensures { result.now ≡ unwrap_or (option_map (λ text. text.now) given.entry) argument.now }
+{
+    match given {
+        Some(name) => name,
+        None => argument,
+    }
 }

@@ -4,7 +4,9 @@ pub mod Bom
 pub mod Folders
 pub mod Json
 pub mod Texts
+pub mod Part
 pub mod Policy
+pub mod Reasoned
 pub mod Settings
 pub mod Licenses
 pub mod Verify

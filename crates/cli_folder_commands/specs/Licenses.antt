@@ -14,6 +14,7 @@ use Rattle.cli_input.specs.Told.{IsReportPath, LockfileFound, PrintsFound, Subje
 use Rattle.cli_input.specs.Told.{found_in_lockfile}
 use Rattle.cli_input.specs.Told.{subject_of_lockfile}
 use Rattle.cli_support.specs.Input.{given_path_in}
+use Rattle.cli_folder_commands.specs.Part.{PrintsPart, sure_judged_lines}
 use Rattle.cli_folder_commands.specs.Policy.{IsPolicy}
 use Rattle.cli_folder_commands.specs.declared.licenses.Counts.{Counts}
 
@@ -45,7 +46,14 @@ PrintsLicenseReport found policy s subjects old new counts =
     (judged : List JudgedData) × AreJudged policy subjects judged
     × PrintsJudged found s judged (all_unmet policy subjects judged) old new counts
 
--- the same of the packages of a lockfile, each with some manifests
+-- where some manifests were not read: of what is said of the subjects by a policy, the lines of what is
+-- a finding in any case are printed, in the form that the arguments ask for
+abbrev pub PrintsPartOfLicenses : Found → PolicyData → List LicenseSubjectData → Option (List ℕ)
+    → Option (List ℕ) → Type 0
+PrintsPartOfLicenses found policy subjects old new = (judged : List JudgedData)
+    × AreJudged policy subjects judged × PrintsPart found (sure_judged_lines judged) old new
+
+-- what is said of the packages of a lockfile, each with some manifests, is printed
 abbrev pub PrintsLicensesOf : Found → PolicyData → SubjectData → Option (List ℕ)
     → Option (List ℕ) → Counts → Type 0
 PrintsLicensesOf found policy s old new counts =

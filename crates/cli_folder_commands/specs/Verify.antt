@@ -18,6 +18,7 @@ use Rattle.cargo_lock_verify.specs.Report.{archive_report_text, reported}
 use Rattle.cargo_lock_verify.specs.Reporting.{reported_archives, reported_folders}
 use Rattle.cargo_lock_verify.specs.Vendored.{FolderFindingData, VendoredData, folder_counts}
 use Rattle.cargo_lock_verify.specs.VendorReport.{folder_report_text, vendor_findings}
+use Rattle.cli_folder_commands.specs.Part.{PrintsPart, sure_archive_lines, sure_folder_lines}
 use Rattle.cli_folder_commands.specs.Texts.{given_texts}
 use Rattle.cli_input.specs.Json.{IsFlag}
 use Rattle.cli_input.specs.Load.{MeansWithCargoChecksums}
@@ -106,6 +107,25 @@ abbrev pub PrintsFoldersOf : Found → SubjectData → Option (List ℕ) → Opt
 PrintsFoldersOf found s old new failure success = (vendored : List VendoredData)
     × ((entries : List EntryData) × AreVendoredOf s.packages vendored
     × PrintsVendorReport found s vendored entries old new failure success)
+
+-- ---- where some were not read
+
+-- the lines of what is found of these archives are printed, in the form that the arguments ask for
+abbrev pub PrintsPartOfArchives : Found → List ArchiveSubjectData → Option (List ℕ)
+    → Option (List ℕ) → Type 0
+PrintsPartOfArchives found subjects old new = (all : Bool) × IsFlag found (codes "all") all
+    × PrintsPart found
+    (sure_archive_lines (reported all (archive_findings (cache_by found subjects)))) old new
+
+-- the same of folders and entries
+abbrev pub PrintsPartOfFolders : Found → List VendoredData → List EntryData → Option (List ℕ)
+    → Option (List ℕ) → Type 0
+PrintsPartOfFolders found vendored entries old new = (asked : Bool)
+    × IsFlag found (codes "others") asked
+    × PrintsPart found
+    (sure_folder_lines (vendor_findings (others_of asked) vendored entries)) old new
+
+-- ---- by the arguments
 
 -- what is found of the packages of a lockfile is printed: of their folders, if the arguments have a
 -- vendor folder, and otherwise of their archives

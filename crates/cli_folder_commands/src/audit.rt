@@ -1,6 +1,6 @@
 //! The command `audit`: which packages of a lockfile have a known vulnerability, by a folder of
 //! advisories.
-ghost use Rattle.std.specs.Prelude.{◌≡◌, IfOk, codes, option_copied};
+ghost use Rattle.std.specs.Prelude.{◌≡◌, IfOk, OnOk, codes, option_copied};
 ghost use Rattle.std.specs.List.{list_any};
 ghost use Rattle.clap.specs.Matches.{first_value, found_of};
 ghost use Rattle.cargo_lock_audit.specs.Audited.{audited_of};
@@ -8,11 +8,14 @@ ghost use Rattle.cargo_lock_audit.specs.Database.{AreInOrderOfIds};
 ghost use Rattle.cargo_lock_audit.specs.Report.{report_data_of};
 ghost use Rattle.cargo_lock_audit.specs.Settings.{settings_of};
 ghost use Rattle.cli_folder_commands.specs.Audit.{IsOlder, IsSomeDatabase, PrintsAudit};
-ghost use Rattle.cli_folder_commands.specs.Audit.{PrintsAuditOf, PrintsAuditReport};
-ghost use Rattle.cli_folder_commands.specs.Audit.{PrintsAuditSince, packages_before};
+ghost use Rattle.cli_folder_commands.specs.Audit.{PrintsAsAsked, PrintsAuditOf, PrintsAuditReport};
+ghost use Rattle.cli_folder_commands.specs.Audit.{PrintsAuditSince, PrintsPartAsAsked};
+ghost use Rattle.cli_folder_commands.specs.Audit.{PrintsPartOfAudit, packages_before};
 ghost use Rattle.cli_input.specs.Told.{subject_of};
 
 use crate::folders::folder;
+use crate::part::print_sure_advisories;
+use crate::reasoned::print_reasoned;
 use crate::settings::settings_of;
 use crate::texts;
 use crate::texts::with_forms;
@@ -21,11 +24,11 @@ use cargo_lock::Lockfile;
 use cargo_lock::package::Package;
 use cargo_lock_audit::{Advisory, AdvisoryFile, Audited, Database, Report, Settings, database_of};
 use clap::{Arg, ArgAction, ArgMatches, Command};
-use cli_folders::{AdvisoryFiles, advisory_files, database_fault};
+use cli_folders::{AdvisoryFiles, FirstFault, advisory_files, database_fault};
 use cli_input::findings::print_findings;
 use cli_input::load::{file, lockfile_with_text, named_lockfile};
 use cli_input::subject::{Subject, report_path};
-use cli_support::words::{any_size, is_standard};
+use cli_support::words::{any_size, is_standard, long_flag};
 use cli_support::{Fault, words};
 use std::alloc::{AllocError, Global};
 use std::env::Env;
@@ -43,6 +46,9 @@ Each advisory that concerns a package of crates.io has a line, for each such pac
 The last line says how many packages were compared with how many advisories of FOLDER, and how many \
 were not, since they are neither of crates.io nor of a registry of `--registry`:
   39 packages of crates.io compared with 812 advisories; not compared: 2 from git
+With `--why` the lines of `cargo-lock why` stand below each finding, without the first one:
+    needed by NAME VERSION      a package that depends on the one of the line before
+    nothing leads to it         no root does, and no package without a source
 
 An advisory concerns a package with its name whose version lies in none of the requirements of \
 `patched` and `unaffected`, by the precedence of SemVer: `1.6.1-rc.1` is before `1.6.1`. One that \
@@ -50,8 +56,8 @@ was withdrawn concerns none.
 
 FOLDER is like a checkout of the database of RustSec: an advisory is a file \
 FOLDER/crates/NAME/RUSTSEC-*.md. Those of names in the lockfile are read, and the others counted. \
-If one does not read, if another file or folder lies beside it whose name begins with no dot, or if \
-FOLDER has no advisory, nothing else is printed.
+If one does not read, or another file or folder lies beside it whose name begins with no dot, only \
+what is found by the rest is printed, and if FOLDER has no advisory, nothing.
 
 OLD has it too if the advisory concerns a package of OLD with that name, whatever its version.
 
@@ -72,6 +78,8 @@ const REGISTRY_HELP: &str =
 
 const SINCE_HELP: &str = "Counts only what this older lockfile does not have; - for standard input";
 
+const WHY_HELP: &str = "Prints below each finding the packages through which it is needed";
+
 /// The kinds of informational advisories that RustSec has, and the word for all of them.
 const KINDS: [&str; 4] = ["unmaintained", "unsound", "notice", "warnings"];
 
@@ -79,7 +87,8 @@ const KINDS: [&str; 4] = ["unmaintained", "unsound", "notice", "warnings"];
 pub fn command<'a>(alloc: Global) -> Result<Command<'a>, AllocError> {
     let command = with_inputs(alloc)?;
     let command = with_settings(alloc, command)?;
-    with_forms(alloc, command.arg(since_option(alloc))?)
+    let command = command.arg(since_option(alloc))?;
+    with_forms(alloc, command.arg(why_option(alloc)?)?)
 }
 
 /// The parser with the options for the lockfile and for the advisories.
@@ -122,12 +131,21 @@ fn since_option<'a>(alloc: Global) -> Arg<'a> {
         .help(SINCE_HELP)
 }
 
+/// The option to print why packages are there. It is one of lines alone.
+fn why_option<'a>(alloc: Global) -> Result<Arg<'a>, AllocError> {
+    long_flag(alloc, "why")?
+        .help(WHY_HELP)
+        .conflicts_with("json")?
+        .conflicts_with("format")
+}
+
 /// Prints which advisories concern packages of the lockfile, a line for each, and what was
 /// compared, or, if the arguments ask for it, all as one line of JSON, or as a report. The status is 1
 /// if one of them is a vulnerability or of a kind that is denied, and no older lockfile that the arguments
 /// name has it too, and otherwise 0. Fails if a URL is none of a registry, if a lockfile, a folder or
-/// an advisory is not read, or if `out` fails; a prefix of the text was then written in the last
-/// case, and nothing in the others.
+/// an advisory is not read, or if `out` fails; a prefix of the text was then written in the last case.
+/// Where an entry within the database is not read, the lines of what is found by the rest are written,
+/// and nothing in the other cases.
 pub fn run<R: Files + Input + Env + AllocGlobal, W: Write>(
     rt: &R,
     options: &ArgMatches<'_>,
@@ -208,7 +226,8 @@ fn packages_before(lockfile: &Option<Lockfile>) -> Option<&[Package]>
     }
 }
 
-/// Prints which advisories concern what is audited, by settings. Returns the status.
+/// Prints which advisories concern what is audited, by settings. Returns the status. Where some of the
+/// database is not read, what is found by the rest is printed first.
 fn print_audited<R: Files + AllocGlobal, W: Write>(
     rt: &R,
     options: &ArgMatches<'_>,
@@ -222,28 +241,30 @@ fn print_audited<R: Files + AllocGlobal, W: Write>(
         (W.contents out.old) (W.contents out.new)
         (status ≡ ExitCode.FAILURE) (status ≡ ExitCode.SUCCESS)) }
 {
+    let alloc = rt.alloc();
     let folder = options.get_str("db").unwrap_or("");
-    let database = database_in(rt, folder, audited.packages)?;
-    print_report(
-        rt.alloc(),
-        options,
-        settings,
-        subject,
-        audited,
-        &database,
-        out,
-    )
+    let mut first = FirstFault::none();
+    let database = database_in(rt, folder, audited.packages, &mut first)?;
+    match first.fault {
+        Some(fault) => {
+            print_part_of_audit(alloc, options, settings, audited, &database, out)?;
+            Err(fault)
+        }
+        None => print_report(alloc, options, settings, subject, audited, &database, out),
+    }
 }
 
-/// The database in a folder, with the advisories about packages with the name of one of these.
+/// The database in a folder, with the advisories about packages with the name of one of these. Where
+/// one is not read, its fault is kept.
 fn database_in<R: Files + AllocGlobal>(
     rt: &R,
     folder: &str,
     packages: &[Package],
+    first: &mut FirstFault,
 ) -> Result<Database, Fault>
     ensures { IfOk result (λ database. IsSomeDatabase database.advisories.items database.size) }
 {
-    let AdvisoryFiles { wanted, count } = advisory_files(rt, folder, packages)?;
+    let AdvisoryFiles { wanted, count } = advisory_files(rt, folder, packages, first)?;
     let advisories = advisories_of(rt.alloc(), wanted)?;
     Ok(Database {
         advisories,
@@ -258,6 +279,42 @@ fn advisories_of(alloc: Global, files: Vec<AdvisoryFile>) -> Result<Vec<Advisory
     match database_of(alloc, files) {
         Ok(advisories) => Ok(advisories),
         Err(fault) => Err(database_fault(alloc, &fault)),
+    }
+}
+
+/// Prints what is found by the advisories of this database, where some were not read.
+fn print_part_of_audit<W: Write>(
+    alloc: Global,
+    options: &ArgMatches<'_>,
+    settings: &Settings,
+    audited: &Audited<'_>,
+    database: &Database,
+    out: &mut W,
+) -> Result<(), Fault>
+    ensures { OnOk result (PrintsPartOfAudit (found_of options.now) (settings_of settings.now)
+        (audited_of audited.now) database.now.advisories.items database.now.size
+        (W.contents out.old) (W.contents out.new)) }
+{
+    let report = Report::of(alloc, audited, database, settings)?;
+    print_part_as_asked(alloc, options, audited.packages, &report, out)
+}
+
+/// Prints the findings of a report on packages, with why the package of each is there if the arguments
+/// ask for that.
+fn print_part_as_asked<W: Write>(
+    alloc: Global,
+    options: &ArgMatches<'_>,
+    packages: &[Package],
+    report: &Report<'_, '_, '_>,
+    out: &mut W,
+) -> Result<(), Fault>
+    ensures { OnOk result (PrintsPartAsAsked (found_of options.now) packages.now
+        (report_data_of report.now) (W.contents out.old) (W.contents out.new)) }
+{
+    if options.get_flag("why") {
+        print_reasoned(alloc, packages, report, false, out)
+    } else {
+        print_sure_advisories(options, report, out)
     }
 }
 
@@ -277,8 +334,26 @@ fn print_report<W: Write>(
         (status ≡ ExitCode.FAILURE) (status ≡ ExitCode.SUCCESS)) }
 {
     let report = Report::of(alloc, audited, database, settings)?;
-    print_findings(alloc, options, subject, &report, out)?;
+    print_as_asked(alloc, options, subject, &report, out)?;
     Ok(status_of(!is_denied(&report)))
+}
+
+/// Prints a report, with why the package of each finding is there if the arguments ask for that.
+fn print_as_asked<W: Write>(
+    alloc: Global,
+    options: &ArgMatches<'_>,
+    subject: Subject<'_>,
+    report: &Report<'_, '_, '_>,
+    out: &mut W,
+) -> Result<(), Fault>
+    ensures { OnOk result (PrintsAsAsked (found_of options.now) (subject_of subject.entry)
+        (report_data_of report.now) (W.contents out.old) (W.contents out.new)) }
+{
+    if options.get_flag("why") {
+        print_reasoned(alloc, subject.packages, report, true, out)
+    } else {
+        print_findings(alloc, options, subject, report, out)
+    }
 }
 
 /// Whether a finding is denied.

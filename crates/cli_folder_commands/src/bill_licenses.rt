@@ -20,6 +20,7 @@ use cargo_lock::package::Package;
 use cargo_lock_bom::options::License;
 use cargo_lock_licenses::{Expression, Subject, Verdict};
 use clap::{Arg, ArgMatches};
+use cli_folders::FirstFault;
 use cli_support::Fault;
 use std::alloc::{AllocError, Global};
 use std::rt::Files;
@@ -59,9 +60,15 @@ fn licenses_in<R: Files + AllocGlobal>(
     ensures { IfOk result (λ licenses. AreLicensesOf packages.now
         (map (option_map license_of) licenses.items)) }
 {
-    let subjects = subjects_in(rt, folder, packages)?;
-    let licenses = licenses_of(rt.alloc(), &subjects)?;
-    Ok(licenses)
+    let mut first = FirstFault::none();
+    let subjects = subjects_in(rt, folder, packages, &mut first)?;
+    match first.fault {
+        Some(fault) => Err(fault),
+        None => {
+            let licenses = licenses_of(rt.alloc(), &subjects)?;
+            Ok(licenses)
+        }
+    }
 }
 
 /// The licences of these subjects, in their order.

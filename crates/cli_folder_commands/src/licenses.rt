@@ -1,23 +1,24 @@
 //! The command `licenses`: what the manifests of packages say of their licences, and which of them
 //! are not allowed.
-ghost use Rattle.std.specs.Prelude.{◌≡◌, IfOk, map};
+ghost use Rattle.std.specs.Prelude.{◌≡◌, IfOk, OnOk, map};
 ghost use Rattle.clap.specs.Matches.{found_of};
 ghost use Rattle.cargo_lock_licenses.specs.Judged.{judged_of};
 ghost use Rattle.cargo_lock_licenses.specs.Policy as spec;
 ghost use Rattle.cargo_lock_licenses.specs.Subjects.{license_subject_of};
 ghost use Rattle.cli_folder_commands.specs.Licenses.{AreLicenseCounts, AreLicensed};
 ghost use Rattle.cli_folder_commands.specs.Licenses.{PrintsLicenseReport, PrintsLicenses};
-ghost use Rattle.cli_folder_commands.specs.Licenses.{PrintsLicensesOf};
+ghost use Rattle.cli_folder_commands.specs.Licenses.{PrintsLicensesOf, PrintsPartOfLicenses};
 ghost use Rattle.cli_input.specs.Told.{subject_of};
 
 use crate::folders::manifests;
+use crate::part::print_sure_licenses;
 use crate::policy::policy_of;
 use crate::texts;
 use crate::texts::with_forms;
 use cargo_lock::package::Package;
 use cargo_lock_licenses::{Policy, Report};
 use clap::{ArgMatches, Command};
-use cli_folders::Manifests;
+use cli_folders::{FirstFault, Manifests};
 use cli_input::findings::print_findings;
 use cli_input::load::{file, lockfile_with_text};
 use cli_input::subject::{Subject, report_path};
@@ -54,7 +55,8 @@ NAME-VERSION. Links are not followed.
 
 On standard error is a line of counts, where anything is found or it is a terminal. The status is 1 \
 where a line begins with `!`, and 2 where the lockfile, a folder or a manifest \
-cannot be read, where no manifest is of a package, and where there may be one that was not read.";
+cannot be read, where no manifest is of a package, and where there may be one that was not read. By \
+those that were read only lines with `!` are printed then, and not `no manifest`.";
 
 /// The options, as help shows them.
 const MANIFESTS_HELP: &str = "The folder of `cargo vendor`, or registry/src of Cargo";
@@ -104,7 +106,8 @@ pub struct Counts {
 /// the arguments ask for it, all as one line of JSON, or as a report. Returns how many packages were
 /// looked at, and how many of them are not allowed or not known. Fails if words of the arguments, the
 /// lockfile, a folder or a manifest are not read, or if `out` fails; a prefix of the text was then
-/// written in the last case, and nothing in the others.
+/// written in the last case. Where a folder or manifest within the folder that the arguments name is not
+/// read, the lines of packages that are findings in any case are written, and nothing in the other cases.
 pub fn run<R: Files + Input + Env + AllocGlobal, W: Write>(
     rt: &R,
     options: &ArgMatches<'_>,
@@ -121,7 +124,8 @@ pub fn run<R: Files + Input + Env + AllocGlobal, W: Write>(
     print_licenses(rt, options, &policy, subject, out)
 }
 
-/// Prints what is found of the licences of these packages by a policy. Returns how much that is.
+/// Prints what is found of the licences of these packages by a policy. Returns how much that is. Where
+/// some manifests are not read, what is found in any case is printed first.
 fn print_licenses<R: Files + AllocGlobal, W: Write>(
     rt: &R,
     options: &ArgMatches<'_>,
@@ -133,8 +137,15 @@ fn print_licenses<R: Files + AllocGlobal, W: Write>(
         (spec.policy_of policy.now) (subject_of subject.entry)
         (W.contents out.old) (W.contents out.new) counts) }
 {
-    let subjects = subjects_of(rt, options, subject.packages)?;
-    print_report(rt.alloc(), options, policy, subject, &subjects, out)
+    let mut first = FirstFault::none();
+    let subjects = subjects_of(rt, options, subject.packages, &mut first)?;
+    match first.fault {
+        Some(fault) => {
+            print_part_of_licenses(rt.alloc(), options, policy, &subjects, out)?;
+            Err(fault)
+        }
+        None => print_report(rt.alloc(), options, policy, subject, &subjects, out),
+    }
 }
 
 /// The packages, each with what its manifests say in the folder that the arguments name.
@@ -142,24 +153,26 @@ fn subjects_of<'a, R: Files + AllocGlobal>(
     rt: &R,
     options: &ArgMatches<'_>,
     packages: &'a [Package],
+    first: &mut FirstFault,
 ) -> Result<Vec<cargo_lock_licenses::Subject<'a>>, Fault>
     ensures { IfOk result
         (λ subjects. AreLicensed packages.now (map license_subject_of subjects.items)) }
 {
     let folder = options.get_str("manifests").unwrap_or("");
-    subjects_in(rt, folder, packages)
+    subjects_in(rt, folder, packages, first)
 }
 
-/// The packages, each with what its manifests say in a folder.
+/// The packages, each with what its manifests say in a folder. Where one is not read, its fault is kept.
 pub(crate) fn subjects_in<'a, R: Files + AllocGlobal>(
     rt: &R,
     folder: &str,
     packages: &'a [Package],
+    first: &mut FirstFault,
 ) -> Result<Vec<cargo_lock_licenses::Subject<'a>>, Fault>
     ensures { IfOk result
         (λ subjects. AreLicensed packages.now (map license_subject_of subjects.items)) }
 {
-    let manifests = Manifests::of(rt, folder, packages)?;
+    let manifests = Manifests::of(rt, folder, packages, first)?;
     let subjects = licensed(rt.alloc(), &manifests, packages)?;
     Ok(subjects)
 }
@@ -179,6 +192,21 @@ fn licensed<'a>(
         subjects.push(cargo_lock_licenses::Subject { package, manifests })?;
     }
     Ok(subjects)
+}
+
+/// Prints what is found of these subjects by a policy in any case, where some manifests were not read.
+fn print_part_of_licenses<W: Write>(
+    alloc: Global,
+    options: &ArgMatches<'_>,
+    policy: &Policy,
+    subjects: &[cargo_lock_licenses::Subject<'_>],
+    out: &mut W,
+) -> Result<(), Fault>
+    ensures { OnOk result (PrintsPartOfLicenses (found_of options.now) (spec.policy_of policy.now)
+        (map license_subject_of subjects.now) (W.contents out.old) (W.contents out.new)) }
+{
+    let report = Report::of(alloc, subjects, policy)?;
+    print_sure_licenses(options, &report, out)
 }
 
 /// Prints what is found of these subjects by a policy. Returns how much that is.

@@ -3,11 +3,13 @@
 ghost use Rattle.std.specs.Prelude.{◌<◌, IfOk};
 
 use crate::files::{Entry, fault_of, names_in, path_of, target_at, text_at};
+use crate::first_fault::FirstFault;
 use cargo_lock_audit::{Advisory, AdvisoryFile, DatabaseFault};
 use cargo_lock_parts::Error;
 use cargo_lock_parts::package::Package;
 use cli_support::Fault;
 use std::alloc::{AllocError, Global};
+use std::collections::BTreeSet;
 use std::rt::Files;
 
 /// The folder of a database that has a folder for each package.
@@ -26,19 +28,23 @@ pub struct AdvisoryFiles {
 /// Reads the advisories about packages with the name of one of these, in a folder like a checkout of
 /// the database of RustSec, and counts all of its advisories. No path is made of a name of a
 /// lockfile. An entry that begins with a dot is passed over. Fails if the folder has no folder
-/// `crates`, if that has no advisory or has an entry that is no folder, or if a folder is not read.
-/// In the folder of a wanted name each entry is an advisory, or it fails.
+/// `crates`, or if that has no advisory.
+///
+/// In `crates` each other entry is a folder, and in that of a wanted name each is an advisory about
+/// this name, with an id of its own. Where one is not, or is not read, its fault is kept, and it is
+/// not among those that are wanted.
 pub fn advisory_files<R: Files + AllocGlobal>(
     rt: &R,
     folder: &str,
     packages: &[Package],
+    first: &mut FirstFault,
 ) -> Result<AdvisoryFiles, Fault>
     ensures { IfOk result (λ found. 0 < found.count) }
 {
     let crates = path_of(rt.alloc(), folder, CRATES)?;
-    let found = files_in(rt, &crates, packages)?;
+    let found = files_in(rt, &crates, packages, first)?;
     if found.count == 0 {
-        return Err(fault_of(rt.alloc(), &crates, "it has no advisory"));
+        return Err(first.or(fault_of(rt.alloc(), &crates, "it has no advisory")));
     }
     Ok(found)
 }
@@ -48,18 +54,24 @@ fn files_in<R: Files + AllocGlobal>(
     rt: &R,
     crates: &str,
     packages: &[Package],
+    first: &mut FirstFault,
 ) -> Result<AdvisoryFiles, Fault> {
-    let wanted = wanted_names(rt.alloc(), packages)?;
-    let mut found = AdvisoryFiles {
-        wanted: Vec::new(rt.alloc()),
+    let mut reading = Reading {
+        names: wanted_names(rt.alloc(), packages)?,
+        ids: BTreeSet::new(rt.alloc()),
+        files: Vec::new(rt.alloc()),
         count: 0,
     };
     for name in &names_in(rt, crates)? {
         if !is_hidden(name) {
-            put_folder(rt, &mut found, &wanted, crates, name)?;
+            let folder = path_of(rt.alloc(), crates, name)?;
+            reading.put_folder(rt, &folder, name, first)?;
         }
     }
-    Ok(found)
+    Ok(AdvisoryFiles {
+        wanted: reading.files,
+        count: reading.count,
+    })
 }
 
 /// Why a database is refused, as an error of the program.
@@ -95,50 +107,103 @@ fn is_advisory(name: &str) -> bool {
     name.starts_with("RUSTSEC-") && name.ends_with(".md")
 }
 
-// Counts the advisories in the folder of a package, and reads them if its name is wanted.
-fn put_folder<R: Files + AllocGlobal>(
-    rt: &R,
-    found: &mut AdvisoryFiles,
-    wanted: &[&str],
-    crates: &str,
-    name: &str,
-) -> Result<(), Fault> {
-    let folder = path_of(rt.alloc(), crates, name)?;
-    let names = names_in(rt, &folder)?;
-    let count = names.iter().filter(|name| is_advisory(name)).count();
-    found.count = found.count.saturating_add(count);
-    if wanted.binary_search(&name).is_ok() {
-        put_files(rt, &mut found.wanted, &folder, name, &names)?;
-    }
-    Ok(())
+// What is read of a database.
+#[derive(Drop)]
+struct Reading<'a> {
+    // The names that are wanted, in order.
+    names: Vec<&'a str>,
+
+    // The ids of the advisories that were read.
+    ids: BTreeSet<String>,
+
+    // These advisories.
+    files: Vec<AdvisoryFile>,
+
+    // How many advisories there are, about packages of all names.
+    count: usize,
 }
 
-// Adds the advisories with these names in the folder of a package.
-fn put_files<R: Files + AllocGlobal>(
-    rt: &R,
-    files: &mut Vec<AdvisoryFile>,
-    folder: &str,
-    package: &str,
-    names: &[String],
-) -> Result<(), Fault> {
-    for name in names {
-        if !is_hidden(name) {
-            put_file(rt, files, package, name, path_of(rt.alloc(), folder, name)?)?;
+impl Reading<'_> {
+    // Counts the advisories in the folder of a package, and reads them if its name is wanted.
+    fn put_folder<R: Files + AllocGlobal>(
+        &mut self,
+        rt: &R,
+        folder: &str,
+        name: &str,
+        first: &mut FirstFault,
+    ) -> Result<(), Fault> {
+        match names_in(rt, folder) {
+            Ok(names) => self.put_names(rt, folder, name, &names, first),
+            Err(fault) => {
+                first.keep(fault);
+                Ok(())
+            }
         }
     }
-    Ok(())
-}
 
-// Adds the advisory at a path. Fails if what is there is none.
-fn put_file<R: Files + AllocGlobal>(
-    rt: &R,
-    files: &mut Vec<AdvisoryFile>,
-    package: &str,
-    name: &str,
-    path: String,
-) -> Result<(), Fault> {
-    let text = advisory_text(rt, name, &path)?;
-    put_text(rt.alloc(), files, package, path, &text)
+    // The same of the folder of a package that has these names.
+    fn put_names<R: Files + AllocGlobal>(
+        &mut self,
+        rt: &R,
+        folder: &str,
+        package: &str,
+        names: &[String],
+        first: &mut FirstFault,
+    ) -> Result<(), Fault> {
+        let count = names.iter().filter(|name| is_advisory(name)).count();
+        self.count = self.count.saturating_add(count);
+        if self.names.binary_search(&package).is_ok() {
+            self.put_files(rt, folder, package, names, first)?;
+        }
+        Ok(())
+    }
+
+    // Adds the advisories with these names in the folder of a package.
+    fn put_files<R: Files + AllocGlobal>(
+        &mut self,
+        rt: &R,
+        folder: &str,
+        package: &str,
+        names: &[String],
+        first: &mut FirstFault,
+    ) -> Result<(), Fault> {
+        for name in names {
+            if !is_hidden(name) {
+                let path = path_of(rt.alloc(), folder, name)?;
+                if let Err(fault) = self.put_file(rt, package, name, path) {
+                    first.keep(fault);
+                }
+            }
+        }
+        Ok(())
+    }
+
+    // Adds the advisory at a path. Fails if what is there is none.
+    fn put_file<R: Files + AllocGlobal>(
+        &mut self,
+        rt: &R,
+        package: &str,
+        name: &str,
+        path: String,
+    ) -> Result<(), Fault> {
+        let text = advisory_text(rt, name, &path)?;
+        let file = file_of(rt.alloc(), package, path, &text)?;
+        self.put(rt.alloc(), file)
+    }
+
+    // Adds an advisory. Fails if it is about another package than the folder it is in, and if another
+    // one has its id.
+    fn put(&mut self, alloc: Global, file: AdvisoryFile) -> Result<(), Fault> {
+        if file.advisory.package.as_str() != file.folder.as_str() {
+            return Err(database_fault(alloc, &DatabaseFault::OtherPackage(file)));
+        }
+        let id = String::from_str(alloc, file.advisory.id.as_str())?;
+        if !self.ids.insert(id)? {
+            return Err(database_fault(alloc, &DatabaseFault::Twice(file)));
+        }
+        self.files.push(file)?;
+        Ok(())
+    }
 }
 
 // The text of the file of this name at a path. Fails if it is not to be an advisory, or is no file.
@@ -149,33 +214,17 @@ fn advisory_text<R: Files + AllocGlobal>(rt: &R, name: &str, path: &str) -> Resu
     text_at(rt, path)
 }
 
-// Adds the advisory that a text at a path has. Fails if it has none.
-fn put_text(
-    alloc: Global,
-    files: &mut Vec<AdvisoryFile>,
-    package: &str,
-    path: String,
-    text: &str,
-) -> Result<(), Fault> {
+// The advisory that a text at a path has, in the folder of a package. Fails if it has none.
+fn file_of(alloc: Global, package: &str, path: String, text: &str) -> Result<AdvisoryFile, Fault> {
     match Advisory::parse(alloc, text) {
-        Ok(advisory) => put_advisory(alloc, files, package, path, advisory),
+        Ok(advisory) => {
+            let folder = String::from_str(alloc, package)?;
+            Ok(AdvisoryFile {
+                path,
+                folder,
+                advisory,
+            })
+        }
         Err(error) => Err(database_fault(alloc, &DatabaseFault::Unread(path, error))),
     }
-}
-
-// Adds an advisory.
-fn put_advisory(
-    alloc: Global,
-    files: &mut Vec<AdvisoryFile>,
-    package: &str,
-    path: String,
-    advisory: Advisory,
-) -> Result<(), Fault> {
-    let folder = String::from_str(alloc, package)?;
-    files.push(AdvisoryFile {
-        path,
-        folder,
-        advisory,
-    })?;
-    Ok(())
 }

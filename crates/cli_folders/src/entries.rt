@@ -3,6 +3,7 @@
 ghost use Rattle.std.specs.Prelude.{◌≡◌, [], IfOk, None};
 
 use crate::files::{Entry, digest_at, fault_at, fault_of, host_in, names_in, path_of, target_at};
+use crate::first_fault::FirstFault;
 use crate::found::copied;
 use cargo_lock_parts::package::Package;
 use cargo_lock_verify::Archive;
@@ -26,14 +27,21 @@ struct Place {
 }
 
 impl Entries {
-    /// Reads the names in a folder, and in each folder in it. Fails if one of these folders is not
-    /// read.
-    pub fn of<R: Files + AllocGlobal>(rt: &R, folder: &str) -> Result<Entries, Fault> {
+    /// Reads the names in a folder, and in each folder in it. Fails if the folder is not read. Where
+    /// one in it is not read, its fault is kept, and what it holds is not among the entries.
+    pub fn of<R: Files + AllocGlobal>(
+        rt: &R,
+        folder: &str,
+        first: &mut FirstFault,
+    ) -> Result<Entries, Fault> {
         let mut entries = Entries {
             places: BTreeMap::new(rt.alloc()),
         };
         for name in &names_in(rt, folder)? {
-            entries.put_entry(rt, path_of(rt.alloc(), folder, name)?, name)?;
+            let path = path_of(rt.alloc(), folder, name)?;
+            if let Err(fault) = entries.put_entry(rt, path, name) {
+                first.keep(fault);
+            }
         }
         Ok(entries)
     }

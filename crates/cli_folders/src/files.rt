@@ -1,5 +1,9 @@
 //! Files and folders: their names, digests and texts, and the errors of those that are not read.
 
+ghost use Rattle.std.specs.Prelude.{◌≡◌, ◌≢◌, Err, IfErr, IfOk, IsErr, None, Ok, Some};
+ghost use Rattle.std.specs.IoError.{error_kind};
+ghost use Rattle.std.specs.declared.io.ErrorKind.TheVariants.{NotFound};
+
 use cargo_lock_parts::Error;
 use cargo_lock_parts::package::Checksum;
 use cargo_lock_verify::digest;
@@ -26,12 +30,10 @@ pub(crate) fn digest_at<R: Files>(rt: &R, path: &str) -> io::Result<Checksum> {
 /// The names in a folder, in order. Fails if the folder is not read, and if one is not UTF-8: what
 /// it names could be looked at by nobody.
 pub(crate) fn names_in<R: Files + AllocGlobal>(rt: &R, folder: &str) -> Result<Vec<String>, Fault> {
-    match bytes_in(rt, folder) {
-        Ok(bytes) => match str::from_utf8(&bytes) {
-            Ok(text) => Ok(names_of(rt.alloc(), text)?),
-            Err(_) => Err(fault_of(rt.alloc(), folder, "a name in it is not UTF-8")),
-        },
-        Err(error) => Err(fault_at(rt.alloc(), folder, error)),
+    let bytes = read_or_fault(rt.alloc(), folder, bytes_in(rt, folder))?;
+    match str::from_utf8(&bytes) {
+        Ok(text) => Ok(names_of(rt.alloc(), text)?),
+        Err(_) => Err(fault_of(rt.alloc(), folder, "a name in it is not UTF-8")),
     }
 }
 
@@ -101,13 +103,38 @@ pub(crate) enum Entry {
     Other,
 }
 
+/// What the system found, or nothing where it says that nothing is there. Only `NotFound` says so: any
+/// other error, as of a folder that may not be looked into, stays the error that it is.
+fn unless_absent<T>(found: io::Result<T>) -> io::Result<Option<T>>
+    ensures found { IfOk found (λ value. result ≡ Ok (Some value)) }
+    ensures absent { IfErr found (λ error. error_kind error ≡ NotFound → result ≡ Ok None) }
+    ensures fault { IfErr found (λ error. error_kind error ≢ NotFound → result ≡ Err error) }
+{
+    match found {
+        Ok(value) => Ok(Some(value)),
+        Err(error) if error.kind() == ErrorKind::NotFound => Ok(None),
+        Err(error) => Err(error),
+    }
+}
+
+/// What the system read at a path. Each of its errors is a fault, with the path.
+fn read_or_fault<T>(alloc: Global, path: &str, read: io::Result<T>) -> Result<T, Fault>
+    ensures read { IfOk read (λ value. result ≡ Ok value) }
+    ensures fault { IfErr read (λ _. IsErr result) }
+{
+    match read {
+        Ok(value) => Ok(value),
+        Err(error) => Err(fault_at(alloc, path, error)),
+    }
+}
+
 /// What is at a path, if something is there. A link is not followed. Only where the system finds
 /// nothing there, nothing is there: any other error of it is one of this function.
 pub(crate) fn entry_at<R: Files + AllocGlobal>(rt: &R, path: &str) -> Result<Option<Entry>, Fault> {
-    match fs::symlink_metadata(rt, Path::new(path)) {
-        Ok(found) => Ok(Some(entry_of(&found))),
-        Err(error) if error.kind() == ErrorKind::NotFound => Ok(None),
-        Err(error) => Err(fault_at(rt.alloc(), path, error)),
+    let found = unless_absent(fs::symlink_metadata(rt, Path::new(path)));
+    match read_or_fault(rt.alloc(), path, found)? {
+        Some(found) => Ok(Some(entry_of(&found))),
+        None => Ok(None),
     }
 }
 
@@ -120,10 +147,8 @@ pub(crate) fn target_at<R: Files + AllocGlobal>(
     if entry_at(rt, path)?.is_none() {
         return Ok(None);
     }
-    match fs::metadata(rt, Path::new(path)) {
-        Ok(found) => Ok(Some(entry_of(&found))),
-        Err(error) => Err(fault_at(rt.alloc(), path, error)),
-    }
+    let found = read_or_fault(rt.alloc(), path, fs::metadata(rt, Path::new(path)))?;
+    Ok(Some(entry_of(&found)))
 }
 
 /// What a path has by its metadata.
@@ -166,10 +191,8 @@ fn refusal_of(alloc: Global, path: &str, why: &str) -> Result<Fault, AllocError>
 
 /// The text of a file. Fails if it is not read, is not UTF-8, or has 16 MiB or more.
 pub(crate) fn text_at<R: Files + AllocGlobal>(rt: &R, path: &str) -> Result<String, Fault> {
-    match bytes_at(rt, path) {
-        Ok(bytes) => text_of(rt.alloc(), path, bytes),
-        Err(error) => Err(fault_at(rt.alloc(), path, error)),
-    }
+    let bytes = read_or_fault(rt.alloc(), path, bytes_at(rt, path))?;
+    text_of(rt.alloc(), path, bytes)
 }
 
 /// The first bytes of a file, at most as many as the limit.

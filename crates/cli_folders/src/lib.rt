@@ -8,6 +8,8 @@
 mod advisories;
 mod entries;
 mod files;
+mod first_fault;
+mod folders;
 mod found;
 mod manifest;
 mod manifests;
@@ -16,5 +18,6 @@ mod vendor;
 
 pub use crate::advisories::{AdvisoryFiles, advisory_files, database_fault};
 pub use crate::entries::Entries;
+pub use crate::first_fault::FirstFault;
 pub use crate::manifests::Manifests;
 pub use crate::vendor::Vendor;

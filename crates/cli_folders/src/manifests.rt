@@ -9,8 +9,10 @@ ghost use Rattle.cli_folders.specs.Manifests.{sought_for, sought_of};
 ghost use Rattle.cli_folders.specs.declared.sought.Reach.TheVariants.{All, Near};
 
 use crate::files::{Entry, entry_at, fault_of, host_in, names_in, path_of};
+use crate::first_fault::FirstFault;
+use crate::folders::{Folders, Kind, VENDORED, has};
 use crate::found::{Found, copied};
-use crate::manifest::{MANIFEST, manifest_at, manifest_path};
+use crate::manifest::{manifest_at, manifest_path};
 use crate::sought::{Reach, Sought};
 use cargo_lock_licenses::Manifest;
 use cargo_lock_parts::package::Package;
@@ -20,33 +22,10 @@ use std::alloc::{AllocError, Global};
 use std::collections::BTreeMap;
 use std::rt::Files;
 
-/// What Cargo leaves in each folder that it unpacks, and `cargo vendor` in none.
-const UNPACKED: &str = ".cargo-ok";
-
-/// What `cargo vendor` leaves in each folder, and Cargo asks of each vendored one.
-const VENDORED: &str = ".cargo-checksum.json";
-
 /// The manifests that were found in a folder.
 #[derive(Drop)]
 pub struct Manifests {
     found: Vec<Found>,
-}
-
-/// What the folders in a folder are.
-#[derive(Clone, Copy, PartialEq, Eq)]
-enum Kind {
-    /// Folders of packages, as `cargo vendor` leaves them: one has a manifest.
-    Vendored,
-
-    /// Folders of packages that Cargo unpacked: one has a manifest and `.cargo-ok`, and none a
-    /// manifest and `.cargo-checksum.json`.
-    Unpacked,
-
-    /// Folders of such folders, as in Cargo's `registry/src`.
-    Indices,
-
-    /// Other folders: neither they nor those in them have a manifest.
-    Other,
 }
 
 impl Manifests {
@@ -55,26 +34,33 @@ impl Manifests {
     /// name and version it has. In the others it also is in the folder `NAME-VERSION`.
     ///
     /// No path is made of a name of a lockfile, no link is followed, and entries that begin with a
-    /// dot are passed over. Fails if a folder or a manifest is not read, and if there may be a
+    /// dot are passed over. Fails if the folder is not read, and if packages have a source, and no
+    /// manifest is of one of them.
+    ///
+    /// A fault is kept where a folder in it or a manifest is not read, and where there may be a
     /// manifest that nobody looked at: at a folder that is a link, in a vendored folder at a manifest
-    /// that is no file or has no name and no version, and at a vendored folder in an index folder. Fails too if packages have a source,
-    /// and no manifest is of one of them.
+    /// that is no file or has no name and no version, and at a vendored folder in an index folder. A
+    /// package that such a folder of Cargo may have then has no manifest.
     pub fn of<R: Files + AllocGlobal>(
         rt: &R,
         folder: &str,
         packages: &[Package],
+        first: &mut FirstFault,
     ) -> Result<Manifests, Fault> {
-        let folders = folders_in(rt, folder)?;
         let mut manifests = Manifests {
             found: Vec::new(rt.alloc()),
         };
-        match kind_of(rt, &folders)? {
-            Kind::Vendored => manifests.put_vendored(rt, &folders)?,
-            Kind::Unpacked => manifests.put_unpacked(rt, folder, &None, packages)?,
-            Kind::Indices => manifests.put_indices(rt, &folders, packages)?,
+        let folders = Folders::of(rt, folder, first)?;
+        match folders.kind(rt, first) {
+            Kind::Vendored => manifests.put_vendored(rt, &folders.known, first)?,
+            Kind::Unpacked => manifests.put_index(rt, folder, &None, packages, first)?,
+            Kind::Indices => manifests.put_indices(rt, &folders, packages, first)?,
             Kind::Other => {}
         }
-        manifests.check(rt.alloc(), folder, packages)?;
+        if manifests.is_of_none(rt.alloc(), packages)? {
+            let fault = fault_of(rt.alloc(), folder, "no manifest in it is of a package");
+            return Err(first.or(fault));
+        }
         Ok(manifests)
     }
 
@@ -89,17 +75,17 @@ impl Manifests {
         manifests_by(alloc, &self.found, &sought)
     }
 
-    // Refuses a folder in which nothing was found of packages with a source.
-    fn check(&self, alloc: Global, folder: &str, packages: &[Package]) -> Result<(), Fault> {
+    // Whether packages have a source, and nothing was found of one of them.
+    fn is_of_none(&self, alloc: Global, packages: &[Package]) -> Result<bool, AllocError> {
         if packages.iter().all(|package| package.source.is_none()) {
-            return Ok(());
+            return Ok(false);
         }
         for package in packages {
             if !self.of_package(alloc, package)?.is_empty() {
-                return Ok(());
+                return Ok(false);
             }
         }
-        Err(fault_of(alloc, folder, "no manifest in it is of a package"))
+        Ok(true)
     }
 
     // ---- folders
@@ -109,59 +95,51 @@ impl Manifests {
         &mut self,
         rt: &R,
         folders: &[String],
-    ) -> Result<(), Fault> {
+        first: &mut FirstFault,
+    ) -> Result<(), AllocError> {
         for folder in folders {
-            self.put_vendored_one(rt, folder)?;
+            match vendored_at(rt, folder) {
+                Ok(Some(found)) => self.found.push(found)?,
+                Ok(None) => {}
+                Err(fault) => first.keep(fault),
+            }
         }
         Ok(())
-    }
-
-    // Adds what is in the folder of a package, if it has a manifest.
-    fn put_vendored_one<R: Files + AllocGlobal>(
-        &mut self,
-        rt: &R,
-        folder: &str,
-    ) -> Result<(), Fault> {
-        let path = manifest_path(rt.alloc(), folder)?;
-        match entry_at(rt, &path)? {
-            None => Ok(()),
-            Some(Entry::File) => match manifest_at(rt, &path)? {
-                Some(found) => {
-                    self.found.push(found)?;
-                    Ok(())
-                }
-                None => Err(fault_of(rt.alloc(), &path, "it has no name and version as text")),
-            },
-            Some(_) => Err(fault_of(rt.alloc(), &path, "it is no file")),
-        }
     }
 
     // Adds what is in the folders of packages in these folders.
     fn put_indices<R: Files + AllocGlobal>(
         &mut self,
         rt: &R,
-        folders: &[String],
+        folders: &Folders,
         packages: &[Package],
-    ) -> Result<(), Fault> {
-        for folder in folders {
+        first: &mut FirstFault,
+    ) -> Result<(), AllocError> {
+        let mut unread = hosts_of(rt.alloc(), &folders.unknown)?;
+        for folder in &folders.known {
             let host = host_of(rt.alloc(), folder)?;
-            self.put_unpacked(rt, folder, &host, packages)?;
+            if let Err(fault) = self.put_index(rt, folder, &host, packages, first) {
+                first.keep(fault);
+                unread.push(host)?;
+            }
         }
-        Ok(())
+        self.put_unread(rt.alloc(), &unread, packages)
     }
 
     // Adds what is in the folders in a folder that are named as Cargo names those of packages. The
-    // folder has this host in its name, if it is an index folder.
-    fn put_unpacked<R: Files + AllocGlobal>(
+    // folder has this host in its name, if it is an index folder. Fails if its names are not read.
+    fn put_index<R: Files + AllocGlobal>(
         &mut self,
         rt: &R,
         folder: &str,
         host: &Option<String>,
         packages: &[Package],
+        first: &mut FirstFault,
     ) -> Result<(), Fault> {
         let wanted = by_folder(rt.alloc(), packages)?;
         let names = names_in(rt, folder)?;
-        self.put_wanted(rt, folder, host, &wanted, &names)
+        self.put_wanted(rt, folder, host, &wanted, &names, first)?;
+        Ok(())
     }
 
     // Adds what has one of these names in such a folder, where the name is that of a wanted package.
@@ -172,27 +150,66 @@ impl Manifests {
         host: &Option<String>,
         wanted: &BTreeMap<String, &Package>,
         names: &[String],
-    ) -> Result<(), Fault> {
+        first: &mut FirstFault,
+    ) -> Result<(), AllocError> {
         for name in names {
             if let Some(package) = wanted.get(name.as_str()) {
                 let path = path_of(rt.alloc(), folder, name)?;
-                self.put_unpacked_one(rt, &path, host, package)?;
+                let found = unpacked_or_none(rt, &path, package, first)?;
+                self.found.push(found.at(copied(rt.alloc(), host)?))?;
             }
         }
         Ok(())
     }
 
-    // Adds what is at the path that has the name of the folder of a package, in a folder of this host.
-    fn put_unpacked_one<R: Files + AllocGlobal>(
+    // Adds for each package that it may lie in one of the index folders of these hosts, which were not
+    // read, where nothing else was found where Cargo has it.
+    fn put_unread(
         &mut self,
-        rt: &R,
-        path: &str,
-        host: &Option<String>,
-        package: &Package,
-    ) -> Result<(), Fault> {
-        let found = unpacked_one(rt, path, package)?;
-        self.found.push(found.at(copied(rt.alloc(), host)?))?;
+        alloc: Global,
+        hosts: &[Option<String>],
+        packages: &[Package],
+    ) -> Result<(), AllocError> {
+        for package in packages {
+            if let Some(host) = host_without(alloc, &self.found, hosts, package)? {
+                let found = Found::without_manifest(alloc, package)?;
+                self.found.push(found.at(copied(alloc, host)?))?;
+            }
+        }
         Ok(())
+    }
+}
+
+// What the manifest in the vendored folder at a path says, if it has one.
+fn vendored_at<R: Files + AllocGlobal>(rt: &R, path: &str) -> Result<Option<Found>, Fault> {
+    let manifest = manifest_path(rt.alloc(), path)?;
+    match entry_at(rt, &manifest)? {
+        None => Ok(None),
+        Some(Entry::File) => match manifest_at(rt, &manifest)? {
+            Some(found) => Ok(Some(found)),
+            None => {
+                let why = "it has no name and version as text";
+                Err(fault_of(rt.alloc(), &manifest, why))
+            }
+        },
+        Some(_) => Err(fault_of(rt.alloc(), &manifest, "it is no file")),
+    }
+}
+
+// What is at the path that has the name of the folder of a package. Where it is not read, the fault is
+// kept, and the package has no manifest there.
+fn unpacked_or_none<R: Files + AllocGlobal>(
+    rt: &R,
+    path: &str,
+    package: &Package,
+    first: &mut FirstFault,
+) -> Result<Found, AllocError> {
+    match unpacked_one(rt, path, package) {
+        Ok(found) => Ok(found),
+        Err(fault) => {
+            first.keep(fault);
+            Found::without_manifest(rt.alloc(), package)
+        }
     }
 }
 
@@ -217,6 +234,32 @@ fn host_of(alloc: Global, folder: &str) -> Result<Option<String>, AllocError> {
     Ok(Some(String::from_str(alloc, host_in(name))?))
 }
 
+// The hosts in the names of index folders.
+fn hosts_of(alloc: Global, folders: &[String]) -> Result<Vec<Option<String>>, AllocError> {
+    let mut hosts = Vec::with_capacity(alloc, folders.len())?;
+    for folder in folders {
+        hosts.push(host_of(alloc, folder)?)?;
+    }
+    Ok(hosts)
+}
+
+// That of these hosts which is one of a package, if one is and nothing was found where Cargo has the
+// package.
+fn host_without<'a>(
+    alloc: Global,
+    found: &[Found],
+    hosts: &'a [Option<String>],
+    package: &Package,
+) -> Result<Option<&'a Option<String>>, AllocError> {
+    let near = near_of(alloc, package)?;
+    for host in hosts {
+        if near.reaches(host) && !has_one(found, &near) {
+            return Ok(Some(host));
+        }
+    }
+    Ok(None)
+}
+
 // ---- the manifests of a package
 
 // A package, and which manifests of it count.
@@ -228,17 +271,20 @@ fn sought_in<'p>(
     ensures { IfOk result (λ sought. sought_of sought
         ≡ sought_for «package».now (reach_of «package».now (map found_of found.now))) }
 {
-    let hosts = Hosts::of(alloc, package)?;
-    let near = Sought {
-        package,
-        hosts,
-        reach: Reach::Near,
-    };
+    let near = near_of(alloc, package)?;
     let reach = reach_by(has_one(found, &near));
+    Ok(Sought { reach, ..near })
+}
+
+// A package, of which the manifests count that lie where Cargo has it.
+fn near_of<'p>(alloc: Global, package: &'p Package) -> Result<Sought<'p>, AllocError>
+    ensures { IfOk result (λ sought. sought_of sought ≡ sought_for «package».now Near) }
+{
+    let hosts = Hosts::of(alloc, package)?;
     Ok(Sought {
         package,
         hosts,
-        reach,
+        reach: Reach::Near,
     })
 }
 
@@ -318,84 +364,6 @@ fn manifests_in(
         one.put_if(alloc, &mut manifests, sought)?;
     }
     Ok(manifests)
-}
-
-// The paths of the folders in a folder, but for those that begin with a dot. Fails at a link.
-fn folders_in<R: Files + AllocGlobal>(rt: &R, folder: &str) -> Result<Vec<String>, Fault> {
-    let mut folders = Vec::new(rt.alloc());
-    for name in &names_in(rt, folder)? {
-        if !name.starts_with('.') {
-            put_folder(rt, &mut folders, path_of(rt.alloc(), folder, name)?)?;
-        }
-    }
-    Ok(folders)
-}
-
-// Adds what is at a path, if it is a folder. Fails at a link.
-fn put_folder<R: Files + AllocGlobal>(
-    rt: &R,
-    folders: &mut Vec<String>,
-    path: String,
-) -> Result<(), Fault> {
-    match entry_at(rt, &path)? {
-        Some(Entry::Folder) => folders.push(path)?,
-        Some(Entry::Link) => return Err(fault_of(rt.alloc(), &path, "it is a link")),
-        _ => {}
-    }
-    Ok(())
-}
-
-// What these folders are.
-fn kind_of<R: Files + AllocGlobal>(rt: &R, folders: &[String]) -> Result<Kind, Fault> {
-    let mut kind = Kind::Other;
-    for folder in folders {
-        if has(rt, folder, MANIFEST)? {
-            if has(rt, folder, VENDORED)? {
-                return Ok(Kind::Vendored);
-            }
-            kind = with_folder(kind, has(rt, folder, UNPACKED)?);
-        }
-    }
-    if kind == Kind::Other && is_one_index(rt, folders)? {
-        kind = Kind::Indices;
-    }
-    Ok(kind)
-}
-
-// What folders are with one more that has a manifest, and that Cargo unpacked or not.
-fn with_folder(kind: Kind, is_unpacked: bool) -> Kind {
-    if is_unpacked || kind == Kind::Unpacked {
-        Kind::Unpacked
-    } else {
-        Kind::Vendored
-    }
-}
-
-// Whether something of this name is in a folder.
-fn has<R: Files + AllocGlobal>(rt: &R, folder: &str, name: &str) -> Result<bool, Fault> {
-    let path = path_of(rt.alloc(), folder, name)?;
-    Ok(entry_at(rt, &path)?.is_some())
-}
-
-// Whether a folder in one of these has a manifest.
-fn is_one_index<R: Files + AllocGlobal>(rt: &R, folders: &[String]) -> Result<bool, Fault> {
-    for folder in folders {
-        if is_index(rt, folder)? {
-            return Ok(true);
-        }
-    }
-    Ok(false)
-}
-
-// Whether a folder in this one has a manifest.
-fn is_index<R: Files + AllocGlobal>(rt: &R, folder: &str) -> Result<bool, Fault> {
-    for name in &names_in(rt, folder)? {
-        let path = path_of(rt.alloc(), folder, name)?;
-        if entry_at(rt, &path)? == Some(Entry::Folder) && has(rt, &path, MANIFEST)? {
-            return Ok(true);
-        }
-    }
-    Ok(false)
 }
 
 // What the manifest in the folder at a path says, if it is a folder with one. Fails at one that is

@@ -3,6 +3,7 @@
 ghost use Rattle.std.specs.Prelude.{◌≡◌, [], IfOk, None};
 
 use crate::files::{self, digest_at, entry_at, fault_at, fault_of, names_in, path_of, text_at};
+use crate::first_fault::FirstFault;
 use crate::manifest::{manifest_path, table_at, text_in};
 use cargo_lock_parts::Error;
 use cargo_lock_parts::package::{Checksum, Name, Package};
@@ -27,18 +28,24 @@ pub struct Vendor {
 }
 
 impl Vendor {
-    /// Reads what is in a folder, and the manifests of the folders in it. Fails if one of them is not
-    /// read, if a name is not UTF-8, and if an entry that Cargo may read is neither a file nor a folder
-    /// nor a link.
-    pub fn of<R: Files + AllocGlobal>(rt: &R, folder: &str) -> Result<Vendor, Fault> {
+    /// Reads what is in a folder, and the manifests of the folders in it. Fails if the folder is not
+    /// read, and if a name is not UTF-8. Where a manifest is not read, or an entry that Cargo may read is
+    /// neither a file nor a folder nor a link, the fault is kept, and it is not among the entries.
+    pub fn of<R: Files + AllocGlobal>(
+        rt: &R,
+        folder: &str,
+        first: &mut FirstFault,
+    ) -> Result<Vendor, Fault> {
         let mut vendor = Vendor {
             entries: Vec::new(rt.alloc()),
             folders: BTreeMap::new(rt.alloc()),
         };
         for name in &names_in(rt, folder)? {
             let path = path_of(rt.alloc(), folder, name)?;
-            let content = content_at(rt, &path, name)?;
-            vendor.put(rt.alloc(), Entry { path, content })?;
+            match content_at(rt, &path, name) {
+                Ok(content) => vendor.put(rt.alloc(), Entry { path, content })?,
+                Err(fault) => first.keep(fault),
+            }
         }
         Ok(vendor)
     }

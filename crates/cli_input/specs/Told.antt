@@ -1,8 +1,10 @@
 -- What is printed of what is found in lockfiles, in the form that the arguments ask for.
 use Rattle.std.specs.Prelude.{◌≡◌, ◌≢◌, ◌⊎◌, ◌++◌, [], ◌∷◌, ℕ, List, None, Option, Some, codes, map}
+use Rattle.std.specs.Prelude.{option_map}
+use Rattle.std.specs.declared.io.ErrorKind.TheVariants.{OutOfMemory}
 use Rattle.std.specs.Io.KnownBytes.{Appends}
 use Rattle.std.specs.List.{AllZip, flat_map}
-use Rattle.std.specs.Path.{StripsPrefix}
+use Rattle.std.specs.Path.{IsAbsolute, StripsPrefix}
 use Rattle.std.specs.Str.Lines.{lines}
 use Rattle.clap.specs.Matches.{first_value}
 use Rattle.clap.specs.declared.parser.matches.Found.{Found}
@@ -13,10 +15,13 @@ use Rattle.cargo_lock_location.specs.Lines.{LinesData}
 use Rattle.cargo_lock_location.specs.Location.{lines_of_packages}
 use Rattle.cargo_lock_parts.specs.Ascii.{newline}
 use Rattle.cargo_lock_parts.specs.Identity.{PackageData}
+use Rattle.cargo_lock_parts.specs.declared.error.Error.TheVariants.{Io, Memory}
 use Rattle.cargo_lock_report.specs.Annotations.{annotations_text}
 use Rattle.cargo_lock_report.specs.Log.{sarif_json}
 use Rattle.cargo_lock_report.specs.Reported.{ReportedData}
 use Rattle.printing.specs.Json.{IsJsonText}
+use Rattle.cli_support.specs.declared.fault.Fault.{Fault}
+use Rattle.cli_support.specs.declared.fault.Fault.TheVariants.{Library, NameOfFile}
 use Rattle.cli_input.specs.declared.findings.Form.{Form}
 use Rattle.cli_input.specs.declared.findings.Form.TheVariants as form
 use Rattle.cli_input.specs.declared.subject.Subject.{Subject}
@@ -76,6 +81,31 @@ pub record IsReportPath (found : Found) (argument path : List ℕ) : Type 0 wher
       → path ≡ name_of_standard (first_value found (codes "name"))
   pub other : argument ≢ codes "-"
       → (path ≡ argument) ⊎ ((folder : List ℕ) × StripsPrefix argument folder path)
+
+-- `--name` is given, and the argument is a file, which has a path
+pub record IsNameOfFile (found : Found) (argument : List ℕ) : Type 0 where
+  pub given : first_value found (codes "name") ≢ None
+  pub file : argument ≢ codes "-"
+
+-- the path that `--name` gives to standard input, if it is given
+abbrev pub given_name : Found → Option (List ℕ)
+given_name found =
+    option_map (λ name. name_of_standard (Some name)) (first_value found (codes "name"))
+
+-- the error where the path of a file is not made: memory ran out, or for an absolute path the system
+-- does not say in which folder the program runs
+abbrev pub IsPathFault : List ℕ → Fault → Type 0
+IsPathFault argument (Library Memory) = Unit {0}
+IsPathFault argument (Library (Io kind)) = IsAbsolute argument × (kind ≢ OutOfMemory)
+IsPathFault argument other = ⊥
+
+-- the same of the path in a report, and where `--name` is given for a file
+abbrev pub IsReportPathFault : Found → List ℕ → Fault → Type 0
+IsReportPathFault found argument (Library Memory) = Unit {0}
+IsReportPathFault found argument NameOfFile = (first_value found (codes "format") ≢ None)
+    × IsNameOfFile found argument
+IsReportPathFault found argument fault = (first_value found (codes "format") ≢ None)
+    × (argument ≢ codes "-") × IsPathFault argument fault
 
 -- ---- forms
 

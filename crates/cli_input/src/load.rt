@@ -1,21 +1,20 @@
 //! The lockfiles that the arguments name.
-ghost use Rattle.std.specs.Prelude.{◌≡◌, IfErr, IfOk, List, MatchOption, None, Some, ℕ, option_map};
-ghost use Rattle.std.specs.Prelude.{string_bytes};
+ghost use Rattle.std.specs.Prelude.{◌≡◌, ◌⊎◌, IfErr, IfOk, List, MatchOption, None, Some, ℕ};
+ghost use Rattle.std.specs.Prelude.{codes, option_map, string_bytes};
 ghost use Rattle.clap.specs.Matches.{found_of};
 ghost use Rattle.cargo_lock.specs.Loads.{IsMeant};
 ghost use Rattle.cargo_lock_parts.specs.declared.error.Error as declared;
 ghost use Rattle.cargo_lock_table_flaws.specs.Marks as marks;
-ghost use Rattle.cargo_lock_encoding.specs.Lockfiles.{LockfileData};
-ghost use Rattle.cargo_lock_encoding.specs.Means.{TextMeans};
-ghost use Rattle.cargo_lock_parts.specs.Error.{IsLong, RefusesUrls};
 ghost use Rattle.cli_input.specs.Json as spec;
 ghost use Rattle.cli_input.specs.Json.{named_file_of};
 ghost use Rattle.cli_input.specs.Limit.{IsAtLimit, IsBeyondFault, IsBeyondLimit, IsInLimit};
 ghost use Rattle.cli_input.specs.Limit.{IsReadInLimit};
-ghost use Rattle.cli_input.specs.Load.{IsGraphOf, IsMeantWithCargoChecksums, IsOwnGraphRead};
-ghost use Rattle.cli_input.specs.Load.{IsOfLockfile, IsOfLockfileUnnamed, IsReadingFault};
-ghost use Rattle.cli_input.specs.Load.{IsTextFault, MeansWithCargoChecksums};
-ghost use Rattle.cli_support.specs.Input.{given_path_in};
+ghost use Rattle.cli_input.specs.Load.{IsGraphFault, IsGraphOf, IsGraphRefused};
+ghost use Rattle.cli_input.specs.Load.{IsMeantWithCargoChecksums, IsNamedFault, IsOfLockfile};
+ghost use Rattle.cli_input.specs.Load.{IsOfLockfileUnnamed, IsOwnGraphRead, IsReadingFault};
+ghost use Rattle.cli_input.specs.Load.{IsRefusedAs, IsTextFault, IsUnreadFault};
+ghost use Rattle.cli_input.specs.Load.{MeansWithCargoChecksums};
+ghost use Rattle.cli_support.specs.Input.{IsInputShown, IsOfReading, given_path_in};
 
 use cargo_lock::dependency::graph::Graph;
 use cargo_lock::{Error, Lockfile, ResolveVersion};
@@ -98,8 +97,7 @@ pub fn allowed_lockfile(
     ensures ok { IfOk result (λ found. MatchOption found
         (IsBeyondLimit (found_of options.now) text.now)
         (IsReadInLimit (found_of options.now) text.now)) }
-    ensures err { IfErr result (λ error.
-        RefusesUrls (IsLong text.now) error ((l : LockfileData) → ¬ TextMeans text.now l)) }
+    ensures err { IfErr result (IsRefusedAs text.now) }
 {
     if options.get_flag("any-size") {
         let lockfile = Lockfile::from_str(alloc, text)?;
@@ -135,11 +133,13 @@ pub fn lockfile_with_text<R: Files + Input + AllocGlobal>(
     options: &ArgMatches<'_>,
     name: &str,
 ) -> Result<WithText, Fault>
-    ensures { IfOk result (λ read.
+    ensures ok { IfOk result (λ read.
         IsReadInLimit (found_of options.now) (string_bytes read.text) read.lockfile) }
+    ensures err { IfErr result
+        (IsNamedFault (found_of options.now) (given_path_in (found_of options.now) name.now)) }
 {
     let argument = words::given_path(options, name);
-    let text = text_at(rt, options, argument)?;
+    let text = text_at(rt, options, argument, argument)?;
     let lockfile = named_lockfile_of(rt.alloc(), options, argument, text.as_str())?;
     Ok(WithText { text, lockfile })
 }
@@ -152,6 +152,8 @@ pub fn named_lockfile<R: Files + Input + AllocGlobal>(
 ) -> Result<Lockfile, Fault>
     ensures meant { IfOk result IsMeant }
     ensures allowed { IfOk result (IsInLimit (found_of options.now)) }
+    ensures err { IfErr result
+        (IsNamedFault (found_of options.now) (given_path_in (found_of options.now) name.now)) }
 {
     let read = lockfile_with_text(rt, options, name)?;
     let WithText { lockfile, .. } = read;
@@ -165,7 +167,9 @@ pub fn compared_lockfile<R: Files + Input + AllocGlobal>(
     options: &ArgMatches<'_>,
     name: &str,
 ) -> Result<Lockfile, Fault>
-    ensures { IfOk result IsMeantWithCargoChecksums }
+    ensures ok { IfOk result IsMeantWithCargoChecksums }
+    ensures err { IfErr result
+        (IsNamedFault (found_of options.now) (given_path_in (found_of options.now) name.now)) }
 {
     let lockfile = named_lockfile(rt, options, name)?;
     let compared = lockfile.with_cargo_checksums(rt.alloc())?;
@@ -178,8 +182,10 @@ pub fn compared_with_text<R: Files + Input + AllocGlobal>(
     options: &ArgMatches<'_>,
     name: &str,
 ) -> Result<WithText, Fault>
-    ensures { IfOk result
+    ensures ok { IfOk result
         (λ read. MeansWithCargoChecksums (string_bytes read.text) read.lockfile) }
+    ensures err { IfErr result
+        (IsNamedFault (found_of options.now) (given_path_in (found_of options.now) name.now)) }
 {
     let read = lockfile_with_text(rt, options, name)?;
     let WithText { text, lockfile } = read;
@@ -203,31 +209,62 @@ pub fn named_graph<R: Files + Input + AllocGlobal>(
     rt: &R,
     options: &ArgMatches<'_>,
 ) -> Result<(ResolveVersion, Graph), Fault>
-    ensures { IfOk result (λ read. IsOwnGraphRead read.0 read.1) }
+    ensures ok { IfOk result (λ read. IsOwnGraphRead read.0 read.1) }
+    ensures err { IfErr result (λ fault. IsGraphFault (found_of options.now) fault
+        ⊎ IsNamedFault (found_of options.now) (given_path_in (found_of options.now) (codes "file"))
+        fault) }
 {
     let lockfile = named_lockfile(rt, options, "file")?;
     let format = lockfile.version;
-    let graph = own_graph(rt.alloc(), &lockfile.packages)?;
-    Ok((format, graph))
+    match own_graph(rt.alloc(), &lockfile.packages) {
+        Ok(graph) => Ok((format, graph)),
+        Err(error) => Err(Fault::Library(error)),
+    }
 }
 
 /// The graph of the lockfile's packages, which is that of its tree. Fails if no package matches a
 /// dependency.
 pub fn graph_of(alloc: Global, lockfile: Lockfile) -> Result<Graph, Error>
-    ensures { IfOk result (λ graph. IsGraphOf lockfile graph) }
+    ensures ok { IfOk result (λ graph. IsGraphOf lockfile graph) }
+    ensures err { IfErr result (IsGraphRefused lockfile) }
 {
     lockfile.into_graph(alloc)
 }
 
-/// The text of the lockfile at this path. Fails if it is not read, with the path in the error.
+/// The text of the lockfile at this path. Fails if it is not read, with the path `name` first in the
+/// error.
 pub fn text_at<R: Files + Input + AllocGlobal>(
     rt: &R,
     options: &ArgMatches<'_>,
     argument: &str,
-) -> Result<String, Fault> {
+    name: &str,
+) -> Result<String, Fault>
+    ensures { IfErr result (IsUnreadFault name.now) }
+{
     match words::text_at(rt, options, argument) {
         Ok(text) => Ok(text),
-        Err(fault) => Err(named(rt.alloc(), argument, fault).with_file_first()),
+        Err(fault) => Err(unread(rt.alloc(), name, fault)),
+    }
+}
+
+/// The error for a lockfile that is not read, with this path of it first, or out of memory.
+fn unread(alloc: Global, name: &str, fault: Fault) -> Fault
+    ensures { (argument : List ℕ) → IsOfReading fault argument → IsUnreadFault name.now result }
+{
+    match words::shown_at(alloc, name) {
+        Ok(path) => with_path(path, fault),
+        Err(refused) => Fault::from(refused),
+    }
+}
+
+/// The same with this path as it is shown.
+fn with_path(path: String, fault: Fault) -> Fault
+    ensures { (argument name : List ℕ) → IsOfReading fault argument
+        → IsInputShown name (string_bytes path) → IsUnreadFault name result }
+{
+    match fault {
+        Fault::TooLarge(_) => Fault::TooLarge(path),
+        fault => fault.in_file(path).with_file_first(),
     }
 }
 

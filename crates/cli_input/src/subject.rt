@@ -1,9 +1,11 @@
 //! A lockfile of which findings are printed.
 
-ghost use Rattle.std.specs.Prelude.{◌≡◌, ◌⊎◌, ℕ, IfOk, List, option_map, string_bytes};
+ghost use Rattle.std.specs.Prelude.{◌≡◌, ◌⊎◌, ℕ, IfErr, IfOk, List, option_map, string_bytes};
 ghost use Rattle.std.specs.Path.{StripsPrefix};
 ghost use Rattle.clap.specs.Matches.{found_of};
-ghost use Rattle.cli_input.specs.Told.{IsReportPath, subject_of};
+ghost use Rattle.cli_input.specs.Told.{IsNameOfFile, IsPathFault, IsReportPath, IsReportPathFault};
+ghost use Rattle.cli_input.specs.Told.{subject_of};
+ghost use Rattle.cli_support.specs.declared.fault.Fault.TheVariants.{NameOfFile};
 ghost use Rattle.cli_input.specs.Told as spec;
 
 use crate::load::WithText;
@@ -55,6 +57,22 @@ impl<'a> Subject<'a> {
     }
 }
 
+/// The path that `--name` gives to standard input, as it is printed, if it is given. Fails if it is
+/// given for a file.
+pub fn given_name<'a>(options: &ArgMatches<'a>, argument: &str) -> Result<Option<&'a str>, Fault>
+    ensures ok { IfOk result (λ name.
+        option_map (λ text. text.now) name ≡ spec.given_name (found_of options.now)) }
+    ensures allowed { IfOk result (λ _. ¬ IsNameOfFile (found_of options.now) argument.now) }
+    ensures err { IfErr result (λ fault.
+        (fault ≡ NameOfFile) × IsNameOfFile (found_of options.now) argument.now) }
+{
+    match options.get_str("name") {
+        None => Ok(None),
+        Some(name) if argument == "-" => Ok(Some(name_of_standard(Some(name)))),
+        Some(_) => Err(Fault::NameOfFile),
+    }
+}
+
 /// The path of the lockfile of an argument, as it is printed with findings. If the arguments ask for
 /// a report, standard input has the path of `--name`, and an absolute path below the working folder
 /// becomes relative to it. Fails if `--name` is given for a file, or if the system does not say the
@@ -64,8 +82,9 @@ pub fn report_path<R: Env + AllocGlobal>(
     options: &ArgMatches<'_>,
     argument: &str,
 ) -> Result<String, Fault>
-    ensures { IfOk result (λ path.
+    ensures ok { IfOk result (λ path.
         IsReportPath (found_of options.now) argument.now (string_bytes path)) }
+    ensures err { IfErr result (IsReportPathFault (found_of options.now) argument.now) }
 {
     if options.get_str("format").is_none() {
         let path = String::from_str(rt.alloc(), argument)?;
@@ -93,8 +112,9 @@ fn name_of_standard(name: Option<&str>) -> &str
 
 /// The path of a file in reports.
 fn path_of_file<R: Env + AllocGlobal>(rt: &R, argument: &str) -> Result<String, Fault>
-    ensures { IfOk result (λ path. (string_bytes path ≡ argument.now)
+    ensures ok { IfOk result (λ path. (string_bytes path ≡ argument.now)
         ⊎ ((folder : List ℕ) × StripsPrefix argument.now folder (string_bytes path))) }
+    ensures err { IfErr result (IsPathFault argument.now) }
 {
     if Path::new(argument).is_absolute() {
         let folder = match env::current_dir(rt) {

@@ -6,4 +6,4 @@ use Rattle.cargo_lock_bom.proofs.Writing.{items_so_far}
 use Rattle.cargo_lock_bom.proofs.component.put_components.Given as goal
 
 abbrev pub invariant-loop-node : goal.invariant-loop-node
-invariant-loop-node l = l.out ≡ extended l.fn.out (items_so_far (component_at l.graph (map (option_map license_of) l.licenses)) (take l.node-index l.nodes))
+invariant-loop-node l = l.out ≡ extended l.fn.out (items_so_far (component_at l.components.graph.now (map (option_map license_of) l.components.licenses.now)) (take l.node-index l.nodes))

@@ -1,4 +1,4 @@
-use Rattle.std.proofs.Common.{◌≡◌, ℕ, IfSome, List, MatchOption, Option, Some, None, map, subst, sym}
+use Rattle.std.proofs.Common.{◌≡◌, ℕ, IfSome, List, MatchOption, Option, Some, None, map, refl, subst, sym}
 use Rattle.std.proofs.lemmas.Result.{IfOk-weaker}
 use Rattle.cargo_lock_merge_core.specs.declared.merged.Merged.{Merged}
 use Rattle.cargo_lock_merge_core.specs.Kept.{AreInPlace}
@@ -42,10 +42,6 @@ merged_of-requires-clause-ours c = listed (all_data c.args.ours.now) c.requires.
 pub merged_of-requires-clause-theirs : goal.merged_of-requires-clause-theirs
 merged_of-requires-clause-theirs c = listed (all_data c.args.theirs.now) c.requires.theirs
 
-pub conflicts_of-requires : goal.conflicts_of-requires
-conflicts_of-requires c =
-    has-plan (numbered_triple c.args.base.now c.args.ours.now c.args.theirs.now) c.in_ok-plan.plan c.requires c.in_ok-plan.ensures.ok
-
 pub returns-in-Some-clause-ok : goal.returns-in-Some-clause-ok
 returns-in-Some-clause-ok c =
     let s : Triple ℕ = numbered_triple c.args.base.now c.args.ours.now c.args.theirs.now in
@@ -54,7 +50,8 @@ returns-in-Some-clause-ok c =
     let merge = matched ((m : List (PlacedData ℕ)) → ¬ IsMerge s m) (λ v. IsMerge s (map merged_data v.items)) c.in_ok-merged.field-0 c.in-Some.merged c.in-Some.is
     (c.in_ok-merged.ensures.merge s plan) in
     IfOk-weaker c.merged_of.result _ _
-    (λ v h. is-outcome s (map merged_data ms) v merge (subst (λ (zs : List Merged). IsMergedOf s.ours s.theirs (map merged_data zs) v) c.deref.ensures.value h))
+    (λ v h. is-outcome s (map merged_data ms) v merge
+    (subst (λ (zs : List Merged). IsMergedOf s (map merged_data zs) v) c.deref.ensures.value (h s plan c.in_ok-commits.ensures.ok refl refl)))
     c.merged_of.ensures.ok
 
 pub returns-clause-ok : goal.returns-clause-ok
@@ -63,4 +60,5 @@ returns-clause-ok c =
     let plan = has-plan s c.in_ok-plan.plan c.requires c.in_ok-plan.ensures.ok in
     let none = unmatched ((m : List (PlacedData ℕ)) → ¬ IsMerge s m) (λ v. IsMerge s (map merged_data v.items)) c.in_ok-merged.field-0 c.in-None.is (c.in_ok-merged.ensures.merge s plan) in
     let conflict = unmatched (AreInConflict s) (λ v. Unit {0}) c.in_ok-merged.field-0 c.in-None.is (c.in_ok-merged.ensures.conflict s plan) in
-    (none, c.in_ok-conflicts_of-in-None.ensures.ok, some-listed s c.in_ok-conflicts_of-in-None.field-0.items conflict c.in_ok-conflicts_of-in-None.ensures.ok)
+    let found = c.in_ok-conflicts_of-in-None.ensures.ok s plan c.in_ok-commits.ensures.ok in
+    (none, found, some-listed s c.in_ok-conflicts_of-in-None.field-0.items conflict found)

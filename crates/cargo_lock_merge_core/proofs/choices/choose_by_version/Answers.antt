@@ -8,10 +8,6 @@ returns-in-Equal c = λ h. tied-not-below (placed_data c.args.ours) (placed_data
 
 pub returns-in-Greater : goal.returns-in-Greater
 returns-in-Greater c = (
-  record {
-    ours = c.is_of_registry.ensures.0 c.if-not-is_of_registry.false;
-    theirs = c.is_of_registry-else-not-is_of_registry.ensures.0 c.if-not-is_of_registry-2.false;
-    above = c.are_above.ensures.0 c.if-not-are_above.false;
-  },
+  c.is_version_decisive.ensures.0 c.if-not-is_version_decisive.false,
   greater-below (placed_data c.args.ours) (placed_data c.args.theirs) (sym c.cmp_versions.ensures ∙ c.in-Greater.is),
 )

@@ -1,43 +1,24 @@
-use Rattle.std.proofs.Common.{◌∙◌, ℕ, List, Option, ap, subst, sym}
-use Rattle.cargo_lock_merge_core.specs.Agreed.{AreEqual}
-use Rattle.cargo_lock_merge_core.specs.Choices.{checksum_if, if_same}
+use Rattle.std.proofs.Common.{◌≡◌, ◌∙◌, ℕ, List, Option, ap, option_map, subst}
+use Rattle.cargo_lock_parts.specs.Checksum.{digest_of}
+use Rattle.cargo_lock_parts.specs.declared.package.checksum.Checksum.{Checksum}
+use Rattle.cargo_lock_merge_core.specs.Agreed.{IsOnlyOf}
+use Rattle.cargo_lock_merge_core.specs.Choices.{checksum_if}
 use Rattle.cargo_lock_merge_core.specs.Numbered.{data_if, placed_data}
-use Rattle.cargo_lock_merge_core.specs.Placed.{PlacedData}
-use Rattle.cargo_lock_merge_core.proofs.Valuing.{value-both, value-none, value-ours, value-theirs}
+use Rattle.cargo_lock_merge_core.proofs.Valuing.{checksum-chosen, checksum-disputed}
 use Rattle.cargo_lock_merge_core.proofs.values.choose_checksum.Goals as goal
 
-pub returns-in-Some-Some : goal.returns-in-Some-Some
-returns-in-Some-Some c =
-    let o = data_if c.args.ours in
-    let t = data_if c.args.theirs in
-    let x = placed_data c.args.chosen in
-    let y = placed_data c.in-Some-Some.ours in
-    let z = placed_data c.in-Some-Some.theirs in
-    let e = c.equal_checksums.result in
-    let are = subst (λ (b : Option (PlacedData ℕ)). AreEqual {X = Option (List ℕ)} (checksum_if b) c.in-Some-Some.ours.«package».now.checksum c.in-Some-Some.theirs.«package».now.checksum e) c.if_same-base.ensures c.equal_checksums.ensures in
-    value-both (λ (y : PlacedData ℕ). y.content.checksum) (checksum_if (if_same x (data_if c.args.base))) o t x y z e c.agreed_side.result
-    (sym c.if_same.ensures ∙ ap data_if c.in-Some-Some.is-0) (sym c.if_same-2.ensures ∙ ap data_if c.in-Some-Some.is-1) are c.agreed_side.ensures
+pub returns-in-None : goal.returns-in-None
+returns-in-None c =
+    checksum-disputed (data_if c.args.base) (data_if c.args.ours) (data_if c.args.theirs) (placed_data c.args.chosen) c.checksum_if-base.result c.checksum_if-ours.result
+    (c.checksum_if-base.ensures ∙ ap checksum_if c.if_same.ensures) (c.checksum_if-ours.ensures ∙ ap checksum_if c.if_same-2.ensures)
+    (subst (λ (w : Option (Option Checksum)). IsOnlyOf (option_map digest_of c.checksum_if-base.result) (option_map digest_of c.checksum_if-ours.result) (option_map (option_map digest_of) w)) c.in-None.is
+    c.only_checksum.ensures)
 
-pub returns-in-Some-None : goal.returns-in-Some-None
-returns-in-Some-None c =
-    let o = data_if c.args.ours in
-    let t = data_if c.args.theirs in
-    let x = placed_data c.args.chosen in
-    value-ours (λ (y : PlacedData ℕ). y.content.checksum) (checksum_if (if_same x (data_if c.args.base))) o t x (placed_data c.in-Some-None.field-0-0)
-    (sym c.if_same.ensures ∙ ap data_if c.in-Some-None.is-0) (sym c.if_same-2.ensures ∙ ap data_if c.in-Some-None.is-1)
-
-pub returns-in-None-Some : goal.returns-in-None-Some
-returns-in-None-Some c =
-    let o = data_if c.args.ours in
-    let t = data_if c.args.theirs in
-    let x = placed_data c.args.chosen in
-    value-theirs (λ (y : PlacedData ℕ). y.content.checksum) (checksum_if (if_same x (data_if c.args.base))) o t x (placed_data c.in-None-Some.field-0-1)
-    (sym c.if_same.ensures ∙ ap data_if c.in-None-Some.is-0) (sym c.if_same-2.ensures ∙ ap data_if c.in-None-Some.is-1)
-
-pub returns-in-None-None : goal.returns-in-None-None
-returns-in-None-None c =
-    let o = data_if c.args.ours in
-    let t = data_if c.args.theirs in
-    let x = placed_data c.args.chosen in
-    absurd (value-none (λ (y : PlacedData ℕ). y.content.checksum) (checksum_if (if_same x (data_if c.args.base))) o t x c.requires
-    (sym c.if_same.ensures ∙ ap data_if c.in-None-None.is-0) (sym c.if_same-2.ensures ∙ ap data_if c.in-None-None.is-1))
+pub returns-in-Some : goal.returns-in-Some
+returns-in-Some c =
+    checksum-chosen (data_if c.args.base) (data_if c.args.ours) (data_if c.args.theirs) (placed_data c.args.chosen) c.checksum_if-base.result c.checksum_if-ours.result c.checksum_if-theirs.result
+    c.in-Some.first c.only_checksum-in-Some.result
+    (c.checksum_if-base.ensures ∙ ap checksum_if c.if_same.ensures) (c.checksum_if-ours.ensures ∙ ap checksum_if c.if_same-2.ensures) (c.checksum_if-theirs.ensures ∙ ap checksum_if c.if_same-3.ensures)
+    (subst (λ (w : Option (Option Checksum)). IsOnlyOf (option_map digest_of c.checksum_if-base.result) (option_map digest_of c.checksum_if-ours.result) (option_map (option_map digest_of) w)) c.in-Some.is
+    c.only_checksum.ensures)
+    c.only_checksum-in-Some.ensures

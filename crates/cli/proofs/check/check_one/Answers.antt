@@ -12,10 +12,11 @@ returns-clause-printed g c =
     let old = g.W.Write.contents c.args.out.now in
     let new = g.W.Write.contents c.print_check.new.out in
     let text = c.as_str-2.result.now in
-    let named = rw c.as_str.ensures.value at c.named_alone-named.ensures in
+    let named = rw (c.as_str.ensures.value, c.in_ok-name.ensures.ok) at c.named_alone-named.ensures in
     if_ok_weaken c.print_check.result _ _ (λ ended printed. (
       text,
       string_bytes c.in_ok-path.path,
-      c.in_ok-path.ensures,
+      c.in_ok-path.ensures.ok,
+      c.in_ok-name.ensures.allowed,
       subst (λ (n : NamedData). PrintsText found n text (counts_in ended) old new (status_in ended ≡ FAILURE) (status_in ended ≡ SUCCESS)) named printed,
     )) c.print_check.ensures.printed

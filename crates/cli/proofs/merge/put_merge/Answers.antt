@@ -1,4 +1,4 @@
-use Rattle.std.proofs.Common.{List, ℕ, codes, refl, string_bytes, subst, sym}
+use Rattle.std.proofs.Common.{List, ℕ, codes, refl, subst, sym}
 use Rattle.clap.specs.Matches.{first_value, found_of}
 use Rattle.cargo_lock_merge.specs.declared.lockfiles.LockfileMerge.{LockfileMerge}
 use Rattle.cli.specs.Merge.{PrintsMergeOf}

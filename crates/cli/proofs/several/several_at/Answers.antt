@@ -1,8 +1,8 @@
-use Rattle.std.proofs.Common.{◌++◌, ◌∷◌, [], Bor, List, Option, ap, arith, get_or, length, map, take, subst, ℕ}
+use Rattle.std.proofs.Common.{[], Bor, List, ap, arith, get_or, length, map, take, subst, ℕ}
 use Rattle.std.specs.List.{AllZip}
 use Rattle.std.proofs.lemmas.List.{map_more, take_all}
 use Rattle.clap.specs.Matches.{found_of}
-use Rattle.cli.specs.Check.{CheckedData, IsOutcome}
+use Rattle.cli.specs.Check.{IsOutcome}
 use Rattle.cli.proofs.Outcomes.{outcome-more}
 use Rattle.cli.proofs.several.several_at.Goals as goal
 

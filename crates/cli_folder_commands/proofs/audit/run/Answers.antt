@@ -26,8 +26,8 @@ returns g c =
       path,
       l,
       settings,
-      c.in_ok-read.ensures.means,
-      subst (λ (a : List ℕ). IsReportPath found a path) c.given_path.ensures c.in_ok-path.ensures,
+      c.in_ok-read.ensures.ok.means,
+      subst (λ (a : List ℕ). IsReportPath found a path) c.given_path.ensures c.in_ok-path.ensures.ok,
       c.in_ok-settings.ensures,
       subst (λ (s : SubjectData). PrintsAuditSince found settings s old new (status ≡ FAILURE) (status ≡ SUCCESS)) subject told,
     )) c.print_audit.ensures

@@ -6,6 +6,6 @@ pub returns : goal.returns
 returns g c = on_ok_weaken c.print_document.result _ _
     (λ printed. (
       c.in_ok-lockfile.lockfile,
-      c.in_ok-lockfile.ensures,
+      c.in_ok-lockfile.ensures.ok,
       rw (sym c.path_in_documents.ensures) printed,
     )) c.print_document.ensures

@@ -6,5 +6,6 @@ pub returns : goal.returns
 returns g c = (
   map judged_of c.in_ok-report.report.judged.items,
   c.in_ok-report.ensures.judged,
-  rw (sym c.in_ok-report.ensures.unmet) (record { printed = c.in_ok-print_findings.ensures; counted = c.counts_of.ensures }),
+  rw (sym c.in_ok-report.ensures.unmet)
+      (record { printed = c.in_ok-print_findings.ensures; counted = c.counts_of.ensures }),
 )

@@ -25,8 +25,8 @@ returns g c =
       path,
       l,
       policy,
-      c.in_ok-read.ensures.means,
-      subst (λ (a : List ℕ). IsReportPath found a path) c.given_path.ensures c.in_ok-path.ensures,
+      c.in_ok-read.ensures.ok.means,
+      subst (λ (a : List ℕ). IsReportPath found a path) c.given_path.ensures c.in_ok-path.ensures.ok,
       c.in_ok-policy.ensures,
       subst (λ (s : SubjectData). PrintsLicensesOf found policy s old new counts) subject told,
     )) c.print_licenses.ensures

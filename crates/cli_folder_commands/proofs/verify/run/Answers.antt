@@ -23,7 +23,7 @@ returns g c =
       text,
       path,
       l,
-      c.in_ok-read.ensures,
-      subst (λ (a : List ℕ). IsReportPath found a path) c.given_path.ensures c.in_ok-path.ensures,
+      c.in_ok-read.ensures.ok,
+      subst (λ (a : List ℕ). IsReportPath found a path) c.given_path.ensures c.in_ok-path.ensures.ok,
       subst (λ (s : SubjectData). PrintsVerifiedOf found s old new (status ≡ FAILURE) (status ≡ SUCCESS)) subject told,
     )) c.print_verified.ensures

@@ -14,7 +14,7 @@ returns-in-Ok-None-clause-limit c =
     beyond-limit (found_of c.args.options.now) c.args.argument.now c.args.text.now c.beyond_limit.result beyond c.beyond_limit.ensures
 
 pub returns-in-Err-clause-err : goal.returns-in-Err-clause-err
-returns-in-Err-clause-err c = reading-text c.args.argument.now c.args.text.now c.in-Err.error c.refusal.result c.refusal.ensures
+returns-in-Err-clause-err c = reading-text c.args.argument.now c.args.text.now c.in-Err.error c.refusal.result c.in-Err.ensures.err c.refusal.ensures
 
 pub returns-in-Err-clause-limit : goal.returns-in-Err-clause-limit
 returns-in-Err-clause-limit c = reading-limit (found_of c.args.options.now) c.args.argument.now c.args.text.now c.in-Err.error c.refusal.result c.refusal.ensures

@@ -7,6 +7,6 @@ returns g c =
     if_ok_weaken c.report.result _ _ (λ status told. (
       c.in_ok-new.new.lockfile,
       string_bytes c.in_ok-new.new.text,
-      c.in_ok-new.ensures,
+      c.in_ok-new.ensures.ok,
       told,
     )) c.report.ensures

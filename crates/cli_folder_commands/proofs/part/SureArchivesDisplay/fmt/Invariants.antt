@@ -1,0 +1,10 @@
+use Rattle.std.proofs.Common.{map, take}
+use Rattle.std.specs.Fmt.{HasWritten, IsPlainFormatter}
+use Rattle.cargo_lock_verify.specs.Archives.{archive_finding_of}
+use Rattle.cli_folder_commands.specs.Part.{sure_archive_lines}
+use Rattle.cli_folder_commands.proofs.part.SureArchivesDisplay.fmt.Given as goal
+
+-- the lines of the findings so far are written
+abbrev pub invariant-loop-finding : goal.invariant-loop-finding
+invariant-loop-finding g l = IsPlainFormatter l.initial.f → HasWritten g.W.Write.write_str_gives l.initial.f
+    (sure_archive_lines (map archive_finding_of (take l.finding-index l.finding-items))) l.f
