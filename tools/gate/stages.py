@@ -25,6 +25,7 @@ QUICK = [
     of("examples", "tools/examples", [], "the examples of comments are in programs that run"),
     of("english", "tools/english", [], "plain words on the pages"),
     of("calls", "tests/rows/calls", [], "the table of calls of rows has each call"),
+    of("swept", "tests/refused-memory/operations --check", [], "each call is swept for memory"),
 ]
 
 # Without proof, beside the proofs.
