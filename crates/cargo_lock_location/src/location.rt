@@ -35,10 +35,7 @@ pub fn package_lines(
 }
 
 // The names of packages.
-fn names_of<'a>(
-    alloc: Global,
-    packages: &'a [Package],
-) -> Result<Vec<Option<&'a str>>, AllocError>
+fn names_of<'a>(alloc: Global, packages: &'a [Package]) -> Result<Vec<Option<&'a str>>, AllocError>
     ensures { IfOk result (λ names. map (option_map (λ t. t.now)) names.items
         ≡ map Some (map (λ p. p.name) packages.now)) }
 {
