@@ -13,3 +13,4 @@ pub mod Spelling
 pub mod MergedLockfiles
 pub mod ByPlaces
 pub mod Once
+pub mod Headline
