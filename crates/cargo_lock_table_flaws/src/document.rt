@@ -28,9 +28,7 @@ use std::alloc::{AllocError, Global};
 /// at these lines of the packages that the table lists. Fails when out of memory.
 ///
 /// ```
-/// let numbers = listed_lines(rt.alloc(), text, table)?;
-/// let lines = PackageLines::new(rt.alloc(), &[], &numbers)?;
-/// let text = table_findings_json(rt.alloc(), &file, report, &lines)?;
+/// let text = table_findings_json(rt.alloc(), &file, report, lines)?;
 /// ```
 pub fn table_findings_json(
     alloc: Global,

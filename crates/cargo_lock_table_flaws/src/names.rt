@@ -19,7 +19,7 @@ type Names<'a> = Vec<Option<&'a str>>;
 /// of memory.
 ///
 /// ```
-/// let numbers = listed_lines(rt.alloc(), text, &table)?;
+/// let numbers = listed_lines(rt.alloc(), text, table)?;
 /// ```
 pub fn listed_lines(
     alloc: Global,

@@ -17,7 +17,7 @@ use std::alloc::{AllocError, Global};
 /// and is at the line of its package, by these lines. Fails when out of memory.
 ///
 /// ```
-/// let reported = reported_table_findings(alloc, "Cargo.lock", report, &lines)?;
+/// let reported = reported_table_findings(alloc, "Cargo.lock", report, lines)?;
 /// ```
 pub fn reported_table_findings(
     alloc: Global,
