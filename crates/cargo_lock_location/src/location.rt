@@ -54,7 +54,7 @@ fn names_of<'a>(alloc: Global, packages: &'a [Package]) -> Result<Vec<Option<&'a
 /// Fails when out of memory.
 ///
 /// ```
-/// let lines = lines_of_names(rt.alloc(), text, &names)?;
+/// let lines = lines_of_names(rt.alloc(), text, &[Some("log"), None])?;
 /// ```
 pub fn lines_of_names(
     alloc: Global,
