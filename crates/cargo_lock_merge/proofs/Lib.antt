@@ -11,3 +11,4 @@ pub mod ByPlaces
 pub mod Once
 pub mod OneSide
 pub mod SoundMerges
+pub mod DocumentDepth

@@ -14,3 +14,4 @@ pub mod MergedLockfiles
 pub mod ByPlaces
 pub mod Once
 pub mod Headline
+pub mod Document

@@ -1,8 +1,10 @@
-//! The merge of three lockfiles by packages, its conflicts and what it reports, each as a line.
+//! The merge of three lockfiles by packages, its conflicts and what it reports, each as a line, and
+//! as a document of JSON.
 #![tactic(auto)]
 
 mod assemble;
 pub mod conflict;
+pub mod document;
 mod format;
 pub mod laws;
 mod lines;
@@ -18,6 +20,7 @@ pub mod refused;
 pub mod spelling;
 mod words;
 
+pub use crate::document::{conflicts_json, merged_json, refused_json};
 pub use crate::lockfiles::merge_lockfiles;
 pub use crate::outcome::merge;
 pub use crate::spelling::with_cargo_spelling;
