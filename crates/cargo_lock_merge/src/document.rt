@@ -44,7 +44,7 @@ pub fn merged_json(alloc: Global, remarks: &Remarks<'_>) -> Result<String, Alloc
     ensures { IfOk result (λ text. IsJsonText (spec.merged_json remarks.now) (string_bytes text)) }
 {
     let told = Told::of(alloc, &remarks.notices)?;
-    document(
+    document_text(
         alloc,
         &Document {
             outcome: "merged",
@@ -72,7 +72,7 @@ pub fn conflicts_json(
         (λ text. IsJsonText (spec.conflicts_json conflicts.now) (string_bytes text)) }
 {
     let items = items_of(alloc, conflicts)?;
-    document(
+    document_text(
         alloc,
         &Document {
             outcome: "conflicts",
@@ -96,7 +96,7 @@ pub fn refused_json(alloc: Global, error: &MergeError<'_>) -> Result<String, All
     ensures { IfOk result (λ text. IsJsonText (spec.refused_json error.now) (string_bytes text)) }
 {
     let message = format!(in alloc; "{error}")?;
-    document(
+    document_text(
         alloc,
         &Document {
             outcome: "refused",
@@ -145,7 +145,7 @@ impl ToJson for Document<'_, '_> {
 }
 
 // Its text.
-fn document(alloc: Global, document: &Document<'_, '_>) -> Result<String, AllocError>
+fn document_text(alloc: Global, document: &Document<'_, '_>) -> Result<String, AllocError>
     ensures { IfOk result
         (λ text. IsJsonText (spec.document_json document.now) (string_bytes text)) }
 {
@@ -332,10 +332,7 @@ fn item_of_metadata<'a, 'd>(
 }
 
 // The item of a format that does not keep the merge.
-fn item_of_format<'a, 'd>(
-    alloc: Global,
-    format: ResolveVersion,
-) -> Result<Item<'a, 'd>, AllocError>
+fn item_of_format<'a, 'd>(alloc: Global, format: ResolveVersion) -> Result<Item<'a, 'd>, AllocError>
     ensures { IfOk result (λ item. item_data item ∷ [] ≡ conflict_of_format (Some format)) }
 {
     let line = FormatLine(format);
@@ -554,7 +551,10 @@ fn write_alarm(out: &mut JsonWriter, notice: &Notice<'_>) -> Result<(), AllocErr
     out.begin_object()?;
     out.displayed_member("message", notice)?;
     put_package_or_null(out, "package", matter.base)?;
-    out.string_member("gone_in", sides_without(matter.base, matter.ours, matter.theirs))?;
+    out.string_member(
+        "gone_in",
+        sides_without(matter.base, matter.ours, matter.theirs),
+    )?;
     out.end_object()
 }
 

@@ -1,18 +1,13 @@
 //! The command `merge`: two lockfiles, merged over their common ancestor.
-ghost use Rattle.std.specs.Prelude.{◌≡◌, IfOk, OnOk, codes, string_bytes};
-ghost use Rattle.std.specs.Io.KnownBytes.{Keeps};
+ghost use Rattle.std.specs.Prelude.{◌≡◌, ◌∷◌, ◌++◌, [], IfOk, OnOk, codes};
+ghost use Rattle.std.specs.Io.KnownBytes.{Appends, Keeps};
 ghost use Rattle.clap.specs.Matches.{first_value, found_of};
-ghost use Rattle.cargo_lock_merge.specs.Document as document;
-ghost use Rattle.cargo_lock_merge.specs.MergedLockfiles.{MergesTo};
-ghost use Rattle.cli_input.specs.Json.{PrintsLine};
+ghost use Rattle.cargo_lock_parts.specs.Ascii.{newline};
 ghost use Rattle.cli_input.specs.Load.{IsMeantWithCargoChecksums};
 ghost use Rattle.cli_support.specs.Destination.{IsPrinted};
 ghost use Rattle.cli.specs.Ending.{IsEnd, status_in};
-ghost use Rattle.cli.specs.Merge.{AreCompared, IsApart, IsMeantForMerge, PrintsConflicts};
-ghost use Rattle.cli.specs.Merge.{PrintsMerge, PrintsMerged, PrintsMergeOf, PrintsRefusal};
-ghost use Rattle.cli.specs.Merge.{triple_of_files};
-ghost use Rattle.cli.specs.Merge as spec;
-ghost use Rattle.printing.specs.Json.{IsJsonText};
+ghost use Rattle.cli.specs.Merge.{AreCompared, IsMeantForMerge, IsTelling, PrintsConflicts};
+ghost use Rattle.cli.specs.Merge.{PrintsMerge, PrintsMerged, PrintsMergeAs, PrintsRefusal};
 
 use crate::ending::Ended;
 use cargo_lock::{Error, Lockfile};
@@ -22,11 +17,10 @@ use cargo_lock_merge::{conflicts_json, merged_json, refused_json, with_cargo_spe
 use clap::error::ErrorKind as WordsKind;
 use clap::{Arg, ArgMatches, Command};
 use cli_input::load::{compared_lockfile, lockfile_without_packages};
-use cli_support::Fault;
 use cli_support::destination::put_own_out;
 use cli_support::output::put;
-use cli_support::words;
 use cli_support::words::{any_size, is_standard, lockfile_path, output, output_file};
+use cli_support::{Fault, words};
 use std::alloc::{AllocError, Global};
 use std::io::{ErrorKind, Input, Write};
 use std::process::ExitCode;
@@ -83,13 +77,23 @@ struct Three {
     theirs: Lockfile,
 }
 
+/// What is told of a merge.
+#[derive(Clone, Copy)]
+enum Telling {
+    /// Lines, on standard error.
+    Lines,
+
+    /// A document, on standard output. The lockfile goes to a file then.
+    Document,
+}
+
 /// Writes the merge of two lockfiles over a base into the output file, or to `out`. The status is
 /// then 0. Where the sides are in conflict nothing is written, and the status is 1. What standard
 /// error is to have comes with the status: a line for each conflict, or for each version that was
 /// chosen, each checksum that a side lost, and each dependency that neither side has. If the arguments
-/// ask for JSON, `out` gets all that as one line in its place. Fails if a lockfile is not read or
-/// cannot be merged, if a document is asked for and no file, and if the output fails; a document is
-/// written of lockfiles that cannot be merged too, and nothing of the others.
+/// ask for JSON, `out` gets all that as one line in its place, also of lockfiles that cannot be merged.
+/// Fails if a lockfile is not read or cannot be merged, if JSON is asked for and the output is no file,
+/// and if the output fails.
 pub(crate) fn run<R: Files + Input + AllocGlobal, W: Write>(
     rt: &R,
     options: &ArgMatches<'_>,
@@ -100,26 +104,30 @@ pub(crate) fn run<R: Files + Input + AllocGlobal, W: Write>(
         (status_in ended ≡ ExitCode.FAILURE) (status_in ended ≡ ExitCode.SUCCESS)) }
     ensures end { IfOk result IsEnd }
 {
-    refuse_one_output(rt.alloc(), options)?;
+    let telling = asked(rt.alloc(), options)?;
     let three = three_lockfiles(rt, options)?;
     match merge_lockfiles(rt.alloc(), &three.base, &three.ours, &three.theirs) {
-        Ok(merge) => put_merge(rt, options, merge, out),
+        Ok(merge) => put_merge(rt, options, telling, merge, out),
+        Err(MergeError::Memory) => Err(Fault::Library(Error::Memory)),
         Err(error) => {
-            put_refusal(rt.alloc(), options, &error, out)?;
+            put_refusal(rt.alloc(), telling, &error, out)?;
             Err(fault_of(rt.alloc(), &error))
         }
     }
 }
 
-/// Fails if a document is asked for, and the lockfile would be beside it.
-fn refuse_one_output(alloc: Global, options: &ArgMatches<'_>) -> Result<(), Fault>
-    ensures { OnOk result (IsApart (found_of options.now)) }
+/// What the arguments ask to be told. Fails if it is a document, and the lockfile would be beside it.
+fn asked(alloc: Global, options: &ArgMatches<'_>) -> Result<Telling, Fault>
+    ensures { IfOk result (IsTelling (found_of options.now)) }
 {
-    if options.get_flag("json") && output_file(options).is_none() {
-        let kind = WordsKind::MissingRequiredArgument;
-        return Err(Fault::from(command(alloc)?.error(kind, NO_FILE)?));
+    if !options.get_flag("json") {
+        return Ok(Telling::Lines);
     }
-    Ok(())
+    if output_file(options).is_some() {
+        return Ok(Telling::Document);
+    }
+    let mut command = command(alloc)?;
+    Err(Fault::from(command.error(WordsKind::MissingRequiredArgument, NO_FILE)?))
 }
 
 /// The three lockfiles that the arguments name. Fails if one is not read, and if two of them are
@@ -188,40 +196,28 @@ fn base_lockfile<R: Files + Input + AllocGlobal>(
 
 /// The error for lockfiles that cannot be merged, or out of memory.
 fn fault_of(alloc: Global, error: &MergeError<'_>) -> Fault {
-    match error {
-        MergeError::Memory => Fault::Library(Error::Memory),
-        _ => match format!(in alloc; "{error}") {
-            Ok(text) => Fault::Refused(text),
-            Err(refused) => Fault::from(refused),
-        },
+    match format!(in alloc; "{error}") {
+        Ok(text) => Fault::Refused(text),
+        Err(refused) => Fault::from(refused),
     }
 }
 
-/// Prints the document of lockfiles that are not merged, if the arguments ask for JSON, and memory did
-/// not run out.
+/// Prints the document of lockfiles that are not merged, if that is told.
 fn put_refusal<W: Write>(
     alloc: Global,
-    options: &ArgMatches<'_>,
+    telling: Telling,
     error: &MergeError<'_>,
     out: &mut W,
 ) -> Result<(), Fault>
-    ensures { OnOk result (PrintsRefusal (found_of options.now) error.now
-        (W.contents out.old) (W.contents out.new)) }
+    ensures { OnOk result
+        (PrintsRefusal telling error.now (W.contents out.old) (W.contents out.new)) }
 {
-    if is_refused(error) && options.get_flag("json") {
-        let text = refused_json(alloc, error)?;
-        put(out, format_args!("{text}\n"))?;
-    }
-    Ok(())
-}
-
-/// Whether one of the lockfiles cannot be merged.
-fn is_refused(error: &MergeError<'_>) -> bool
-    ensures { result ≡ spec.is_refused error.now }
-{
-    match error {
-        MergeError::Memory => false,
-        MergeError::Root(_) | MergeError::Refused(_, _) => true,
+    match telling {
+        Telling::Lines => Ok(()),
+        Telling::Document => {
+            let document = refused_json(alloc, error)?;
+            put_line(out, document.as_str())
+        }
     }
 }
 
@@ -229,18 +225,23 @@ fn is_refused(error: &MergeError<'_>) -> bool
 fn put_merge<R: Files + AllocGlobal, W: Write>(
     rt: &R,
     options: &ArgMatches<'_>,
+    telling: Telling,
     merge: LockfileMerge<'_>,
     out: &mut W,
 ) -> Result<Ended, Fault>
-    requires { IsApart (found_of options.now) }
-    ensures printed { IfOk result (λ ended. PrintsMergeOf (found_of options.now) merge.entry
+    requires { IsTelling (found_of options.now) telling }
+    ensures printed { IfOk result (λ ended. PrintsMergeAs telling (found_of options.now) merge.entry
         (W.contents out.old) (W.contents out.new)
         (status_in ended ≡ ExitCode.FAILURE) (status_in ended ≡ ExitCode.SUCCESS)) }
     ensures end { IfOk result IsEnd }
 {
     match merge {
-        LockfileMerge::Merged(_, text, remarks) => put_merged(rt, options, &text, &remarks, out),
-        LockfileMerge::InConflict(conflicts) => put_conflicts(rt.alloc(), options, &conflicts, out),
+        LockfileMerge::Merged(_, text, remarks) => {
+            put_merged(rt, options, telling, text.as_str(), &remarks, out)
+        }
+        LockfileMerge::InConflict(conflicts) => {
+            put_conflicts(rt.alloc(), telling, &conflicts, out)
+        }
     }
 }
 
@@ -248,47 +249,76 @@ fn put_merge<R: Files + AllocGlobal, W: Write>(
 fn put_merged<R: Files + AllocGlobal, W: Write>(
     rt: &R,
     options: &ArgMatches<'_>,
+    telling: Telling,
     text: &str,
     remarks: &Remarks<'_>,
     out: &mut W,
 ) -> Result<Ended, Fault>
-    requires { IsApart (found_of options.now) }
-    ensures printed { OnOk result (PrintsMerged (found_of options.now) text.now remarks.now
+    requires { IsTelling (found_of options.now) telling }
+    ensures printed { OnOk result (PrintsMerged telling (found_of options.now) text.now remarks.now
         (W.contents out.old) (W.contents out.new)) }
     ensures status { IfOk result (λ ended. status_in ended ≡ ExitCode.SUCCESS) }
     ensures end { IfOk result IsEnd }
 {
-    if options.get_flag("json") {
-        let document = merged_json(rt.alloc(), remarks)?;
-        put_own_out(rt, options, text, out)?;
-        put(out, format_args!("{document}\n"))?;
-        Ok(Ended::Silent(ExitCode::SUCCESS))
-    } else {
-        let lines = remarks.lines(rt.alloc())?;
-        put_own_out(rt, options, text, out)?;
-        Ok(Ended::WithLines(ExitCode::SUCCESS, lines))
+    match telling {
+        Telling::Lines => {
+            let lines = remarks.lines(rt.alloc())?;
+            put_own_out(rt, options, text, out)?;
+            Ok(Ended::WithLines(ExitCode::SUCCESS, lines))
+        }
+        Telling::Document => {
+            let document = merged_json(rt.alloc(), remarks)?;
+            put_in_file(rt, options, text, out)?;
+            put_line(out, document.as_str())?;
+            Ok(Ended::Silent(ExitCode::SUCCESS))
+        }
     }
 }
 
-/// Prints the document of conflicts, if the arguments ask for JSON. Returns the status, with what
-/// standard error is to have.
+/// Writes the text into the output file.
+fn put_in_file<R: Files + AllocGlobal, W: Write>(
+    rt: &R,
+    options: &ArgMatches<'_>,
+    text: &str,
+    out: &mut W,
+) -> Result<(), Fault>
+    requires { ¬ IsPrinted (first_value (found_of options.now) (codes "output")) }
+    ensures { OnOk result (Keeps (W.contents out.old) (W.contents out.new)) }
+{
+    put_own_out(rt, options, text, out)
+}
+
+/// Prints a line, and a newline.
+fn put_line<W: Write>(out: &mut W, line: &str) -> Result<(), Fault>
+    ensures { OnOk result
+        (Appends (W.contents out.old) (W.contents out.new) (line.now ++ newline ∷ [])) }
+{
+    put(out, format_args!("{line}\n"))?;
+    Ok(())
+}
+
+/// Prints the document of conflicts, if that is told. Returns the status, with what standard error is
+/// to have.
 fn put_conflicts<W: Write>(
     alloc: Global,
-    options: &ArgMatches<'_>,
+    telling: Telling,
     conflicts: &LockfileConflicts<'_>,
     out: &mut W,
 ) -> Result<Ended, Fault>
-    ensures printed { OnOk result (PrintsConflicts (found_of options.now) conflicts.now
-        (W.contents out.old) (W.contents out.new)) }
+    ensures printed { OnOk result
+        (PrintsConflicts telling conflicts.now (W.contents out.old) (W.contents out.new)) }
     ensures status { IfOk result (λ ended. status_in ended ≡ ExitCode.FAILURE) }
     ensures end { IfOk result IsEnd }
 {
-    if options.get_flag("json") {
-        let document = conflicts_json(alloc, conflicts)?;
-        put(out, format_args!("{document}\n"))?;
-        Ok(Ended::Silent(ExitCode::FAILURE))
-    } else {
-        let lines = format!(in alloc; "{conflicts}")?;
-        Ok(Ended::WithLines(ExitCode::FAILURE, lines))
+    match telling {
+        Telling::Lines => {
+            let lines = format!(in alloc; "{conflicts}")?;
+            Ok(Ended::WithLines(ExitCode::FAILURE, lines))
+        }
+        Telling::Document => {
+            let document = conflicts_json(alloc, conflicts)?;
+            put_line(out, document.as_str())?;
+            Ok(Ended::Silent(ExitCode::FAILURE))
+        }
     }
 }
