@@ -261,7 +261,18 @@ fn put_format<'a, 'd>(
 {
     match format {
         Some(version) => {
-            items.push(item_of_format(alloc, version)?)?;
+            let line = FormatLine(version);
+            let message = format!(in alloc; "{line}")?;
+            let item: Item<'a, 'd> = Item {
+                kind: "format",
+                message,
+                base: None,
+                ours: None,
+                theirs: None,
+                source: None,
+                key: None,
+            };
+            items.push(item)?;
             Ok(())
         }
         None => Ok(()),
@@ -328,23 +339,6 @@ fn item_of_metadata<'a, 'd>(
         theirs: None,
         source: None,
         key: Some(key),
-    })
-}
-
-// The item of a format that does not keep the merge.
-fn item_of_format<'a, 'd>(alloc: Global, format: ResolveVersion) -> Result<Item<'a, 'd>, AllocError>
-    ensures { IfOk result (λ item. item_data item ∷ [] ≡ conflict_of_format (Some format)) }
-{
-    let line = FormatLine(format);
-    let message = format!(in alloc; "{line}")?;
-    Ok(Item {
-        kind: "format",
-        message,
-        base: None,
-        ours: None,
-        theirs: None,
-        source: None,
-        key: None,
     })
 }
 

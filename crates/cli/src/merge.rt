@@ -255,9 +255,9 @@ fn put_merged<R: Files + AllocGlobal, W: Write>(
     out: &mut W,
 ) -> Result<Ended, Fault>
     requires { IsTelling (found_of options.now) telling }
-    ensures printed { OnOk result (PrintsMerged telling (found_of options.now) text.now remarks.now
-        (W.contents out.old) (W.contents out.new)) }
-    ensures status { IfOk result (λ ended. status_in ended ≡ ExitCode.SUCCESS) }
+    ensures printed { IfOk result (λ ended. PrintsMerged telling (found_of options.now) text.now
+        remarks.now (W.contents out.old) (W.contents out.new)
+        × (status_in ended ≡ ExitCode.SUCCESS)) }
     ensures end { IfOk result IsEnd }
 {
     match telling {
@@ -305,9 +305,8 @@ fn put_conflicts<W: Write>(
     conflicts: &LockfileConflicts<'_>,
     out: &mut W,
 ) -> Result<Ended, Fault>
-    ensures printed { OnOk result
-        (PrintsConflicts telling conflicts.now (W.contents out.old) (W.contents out.new)) }
-    ensures status { IfOk result (λ ended. status_in ended ≡ ExitCode.FAILURE) }
+    ensures printed { IfOk result (λ ended. PrintsConflicts telling conflicts.now
+        (W.contents out.old) (W.contents out.new) × (status_in ended ≡ ExitCode.FAILURE)) }
     ensures end { IfOk result IsEnd }
 {
     match telling {
