@@ -3,7 +3,7 @@ use Rattle.std.proofs.Common.{◌≤◌, ℕ, Bool, true, false, List, Option, N
 use Rattle.std.specs.Borrow.{Bor}
 use Rattle.json.specs.Tree.{depth}
 use Rattle.cargo_lock_display.proofs.Depth.{identity-depth, package-depth}
-use Rattle.cargo_lock_merge.specs.Document.{ConflictData, alarm_json, choice_json, conflict_json, document_json, item_data, item_json, matter_of, merge_document, moved_json, name_or_null, notice_json, is_alarm, reference_json, reference_or_null, version_or_null}
+use Rattle.cargo_lock_merge.specs.Document.{ConflictData, alarm_json, choice_json, conflict_json, merge_parts_json, item_data, item_json, matter_of, merge_document, moved_json, name_or_null, notice_json, is_loss, pair_json, pair_or_null, version_or_null}
 use Rattle.cargo_lock_merge.specs.declared.document.Document.{Document}
 use Rattle.cargo_lock_merge.specs.declared.document.Item.{Item}
 use Rattle.cargo_lock_merge.specs.declared.moved.Moved.{Moved}
@@ -25,8 +25,8 @@ conflict-depth c = omega (
   text-depth c.key,
 )
 
-reference-depth : (r : Option Reference) → depth (reference_or_null r) ≤ 4
-unfolding reference_json
+reference-depth : (r : Option Reference) → depth (pair_or_null r) ≤ 4
+unfolding pair_json
 reference-depth None = omega arith
 reference-depth (Some r) = omega (
   arith,
@@ -71,9 +71,9 @@ either-depth true c = alarm-depth c
 either-depth false c = choice-depth c
 
 notice-depth : (n : Notice) → depth (notice_json (matter_of n)) ≤ 4
-notice-depth n = either-depth (is_alarm (matter_of n)) (matter_of n)
+notice-depth n = either-depth (is_loss (matter_of n)) (matter_of n)
 
-pub document-depth : (d : Document) → depth (document_json d) ≤ 7
+pub document-depth : (d : Document) → depth (merge_parts_json d) ≤ 7
 unfolding merge_document
 document-depth d = omega (
   arith,

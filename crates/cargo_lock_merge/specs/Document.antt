@@ -117,15 +117,15 @@ abbrev pub unchecked_json : PackageData → Json
 unchecked_json p = dependency_json (identity_of p)
 
 -- a package, and the other one on which it depends
-unfoldable pub reference_json : Reference → Json
-reference_json r = object
+unfoldable pub pair_json : Reference → Json
+pair_json r = object
     (member (codes "package") (unchecked_json r.from.now)
     (member (codes "dependency") (unchecked_json r.to.now) no_members))
 
 -- the same, or null if there is no reference
-abbrev pub reference_or_null : Option Reference → Json
-reference_or_null None = null
-reference_or_null (Some r) = reference_json r
+abbrev pub pair_or_null : Option Reference → Json
+pair_or_null None = null
+pair_or_null (Some r) = pair_json r
 
 -- a moved reference: its line, both merged packages, and the references that the sides have at their
 -- places
@@ -134,26 +134,26 @@ moved_json r = object
     (member (codes "message") (string (moved_line r))
     (member (codes "package") (unchecked_json r.found.merged.from.now)
     (member (codes "dependency") (unchecked_json r.found.merged.to.now)
-    (member (codes "ours") (reference_or_null r.found.ours)
-    (member (codes "theirs") (reference_or_null r.found.theirs) no_members)))))
+    (member (codes "ours") (pair_or_null r.found.ours)
+    (member (codes "theirs") (pair_or_null r.found.theirs) no_members)))))
 
 -- ---- notices
 
 -- the notice is an alarm: a side lost a checksum
-abbrev pub is_alarm_of : Kind → Bool
-is_alarm_of kind.Package = false
-is_alarm_of kind.Checksum = false
-is_alarm_of kind.Replacement = false
-is_alarm_of kind.Version = false
-is_alarm_of kind.LostChecksum = true
+abbrev pub is_loss_of : Kind → Bool
+is_loss_of kind.Package = false
+is_loss_of kind.Checksum = false
+is_loss_of kind.Replacement = false
+is_loss_of kind.Version = false
+is_loss_of kind.LostChecksum = true
 
 -- the same of a notice
-abbrev pub is_alarm : merging.Conflict → Bool
-is_alarm c = is_alarm_of c.kind
+abbrev pub is_loss : merging.Conflict → Bool
+is_loss c = is_loss_of c.kind
 
 -- it is none, but tells of the version of a member
 abbrev pub is_choice : merging.Conflict → Bool
-is_choice c = not (is_alarm c)
+is_choice c = not (is_loss c)
 
 -- the name of a package, or null if there is none
 abbrev pub name_or_null : Option (Bor PackageData) → Json
@@ -196,7 +196,7 @@ alarm_json c = object
 
 -- what the program has of a notice in its array
 abbrev pub notice_json : merging.Conflict → Json
-notice_json c = if is_alarm c then alarm_json c else choice_json c
+notice_json c = if is_loss c then alarm_json c else choice_json c
 
 -- ---- the document
 
@@ -216,7 +216,7 @@ merge_document outcome message conflicts moved versions alarms = object
 abbrev pub merged_json : Remarks → Json
 merged_json r = merge_document (codes "merged") None [] (map moved_json r.moved.items)
     (map choice_json (filter is_choice r.notices.items))
-    (map alarm_json (filter is_alarm r.notices.items))
+    (map alarm_json (filter is_loss r.notices.items))
 
 -- of sides that are in conflict about this
 abbrev pub conflicts_json : LockfileConflicts → Json
@@ -250,8 +250,8 @@ abbrev pub matter_of : Notice → merging.Conflict
 matter_of n = n.0
 
 -- the document of these parts
-abbrev pub document_json : Document → Json
-document_json d = merge_document d.outcome.now (option_map (λ t. t.now) d.message)
+abbrev pub merge_parts_json : Document → Json
+merge_parts_json d = merge_document d.outcome.now (option_map (λ t. t.now) d.message)
     (map item_json d.conflicts.now) (map moved_json d.moved.now)
     (map (λ n. notice_json (matter_of n)) d.versions.now)
     (map (λ n. notice_json (matter_of n)) d.alarms.now)

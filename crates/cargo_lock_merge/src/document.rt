@@ -9,7 +9,7 @@ ghost use Rattle.cargo_lock_merge.specs.Document.{conflict_at_place, conflict_of
 ghost use Rattle.cargo_lock_merge.specs.Document.{conflict_of_metadata, conflict_of_source};
 ghost use Rattle.cargo_lock_merge.specs.Document.{conflicts_data, is_choice, item_data, item_json};
 ghost use Rattle.cargo_lock_merge.specs.Document.{matter_of, name_or_null, notice_json, place_kind};
-ghost use Rattle.cargo_lock_merge.specs.Document.{reference_json, reference_or_null, side_or_both};
+ghost use Rattle.cargo_lock_merge.specs.Document.{pair_json, pair_or_null, side_or_both};
 ghost use Rattle.cargo_lock_merge.specs.Document.{sides_without, unchecked_json, version_or_null};
 ghost use Rattle.cargo_lock_merge.specs.Document as spec;
 ghost use Rattle.cargo_lock_merge.specs.Words.{bare_text};
@@ -123,9 +123,9 @@ struct Document<'a, 'd> {
 }
 
 impl ToJson for Document<'_, '_> {
-    ghost use Rattle.cargo_lock_merge.specs.Document.{document_json};
+    ghost use Rattle.cargo_lock_merge.specs.Document.{merge_parts_json};
 
-    ghost json = { document_json };
+    ghost json = { merge_parts_json };
 
     fn write_json(&self, out: &mut JsonWriter) -> Result<(), AllocError> {
         out.begin_object()?;
@@ -147,7 +147,7 @@ impl ToJson for Document<'_, '_> {
 // Its text.
 fn document_text(alloc: Global, document: &Document<'_, '_>) -> Result<String, AllocError>
     ensures { IfOk result
-        (λ text. IsJsonText (spec.document_json document.now) (string_bytes text)) }
+        (λ text. IsJsonText (spec.merge_parts_json document.now) (string_bytes text)) }
 {
     json_line(alloc, document)
 }
@@ -381,7 +381,7 @@ fn put_reference_or_null(
     reference: Option<Reference<'_>>,
 ) -> Result<(), AllocError>
     ensures { Adds result out.old out.new
-        (key name.now ∷ json_tokens (reference_or_null reference.entry)) }
+        (key name.now ∷ json_tokens (pair_or_null reference.entry)) }
 {
     match reference {
         Some(reference) => {
@@ -393,9 +393,9 @@ fn put_reference_or_null(
 }
 
 // Writes a reference.
-#[tactic(auto, unfolding(crate::specs::Document::reference_json))]
+#[tactic(auto, unfolding(crate::specs::Document::pair_json))]
 fn write_reference(out: &mut JsonWriter, reference: Reference<'_>) -> Result<(), AllocError>
-    ensures { Adds result out.old out.new (json_tokens (reference_json reference.entry)) }
+    ensures { Adds result out.old out.new (json_tokens (pair_json reference.entry)) }
 {
     let Reference { from, to } = reference;
     out.begin_object()?;
@@ -442,7 +442,7 @@ impl<'a> Told<'a> {
         ensures versions { IfOk result (λ told.
             map matter_of told.versions.items ≡ filter is_choice notices.now) }
         ensures alarms { IfOk result (λ told.
-            map matter_of told.alarms.items ≡ filter spec.is_alarm notices.now) }
+            map matter_of told.alarms.items ≡ filter spec.is_loss notices.now) }
     {
         let mut told = Told {
             versions: Vec::new(alloc),
@@ -461,9 +461,9 @@ impl<'a> Told<'a> {
             ++ filter is_choice (matter_of notice.entry ∷ [])) }
         ensures alarms { OnOk result (map matter_of self.new.alarms.items
             ≡ map matter_of self.old.alarms.items
-            ++ filter spec.is_alarm (matter_of notice.entry ∷ [])) }
+            ++ filter spec.is_loss (matter_of notice.entry ∷ [])) }
     {
-        if is_alarm(&notice) {
+        if is_loss(&notice) {
             self.alarms.push(notice)?;
         } else {
             self.versions.push(notice)?;
@@ -473,8 +473,8 @@ impl<'a> Told<'a> {
 }
 
 // Whether a notice is an alarm.
-fn is_alarm(notice: &Notice<'_>) -> bool
-    ensures { result ≡ spec.is_alarm (matter_of notice.now) }
+fn is_loss(notice: &Notice<'_>) -> bool
+    ensures { result ≡ spec.is_loss (matter_of notice.now) }
 {
     match notice.0.kind {
         Kind::LostChecksum => true,
@@ -488,7 +488,7 @@ impl ToJson for Notice<'_> {
     ghost json = { λ notice. notice_json (matter_of notice) };
 
     fn write_json(&self, out: &mut JsonWriter) -> Result<(), AllocError> {
-        if is_alarm(self) {
+        if is_loss(self) {
             write_alarm(out, self)
         } else {
             write_choice(out, self)
