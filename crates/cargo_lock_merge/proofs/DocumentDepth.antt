@@ -1,5 +1,5 @@
 -- The depth of the document of a merge.
-use Rattle.std.proofs.Common.{◌≤◌, ℕ, Bool, true, false, List, Option, None, Some, arith, cond, map}
+use Rattle.std.proofs.Common.{◌≤◌, ℕ, Bool, true, false, List, Option, None, Some, arith, cond, map, option_map}
 use Rattle.std.specs.Borrow.{Bor}
 use Rattle.json.specs.Tree.{depth}
 use Rattle.cargo_lock_display.proofs.Depth.{identity-depth, package-depth}
@@ -77,7 +77,7 @@ pub document-depth : (d : Document) → depth (merge_parts_json d) ≤ 7
 unfolding merge_document
 document-depth d = omega (
   arith,
-  text-depth _,
+  text-depth (option_map (λ (t : Bor (List ℕ)). t.now) d.message),
   array-depth 4 item_json (λ (i : Item). conflict-depth (item_data i)) d.conflicts.now,
   array-depth 5 moved_json moved-depth d.moved.now,
   array-depth 4 (λ (n : Notice). notice_json (matter_of n)) notice-depth d.versions.now,

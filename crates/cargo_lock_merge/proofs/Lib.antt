@@ -12,3 +12,4 @@ pub mod Once
 pub mod OneSide
 pub mod SoundMerges
 pub mod DocumentDepth
+pub mod Documents

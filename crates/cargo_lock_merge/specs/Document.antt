@@ -194,7 +194,7 @@ alarm_json c = object
     (member (codes "package") (package_or_null (now_if c.base))
     (member (codes "gone_in") (string (sides_without c.base c.ours c.theirs)) no_members)))
 
--- what the program has of a notice in its array
+-- a notice: an alarm, or a version that is chosen
 abbrev pub notice_json : merging.Conflict → Json
 notice_json c = if is_loss c then alarm_json c else choice_json c
 
@@ -215,8 +215,8 @@ merge_document outcome message conflicts moved versions alarms = object
 -- of a merge that reports this
 abbrev pub merged_json : Remarks → Json
 merged_json r = merge_document (codes "merged") None [] (map moved_json r.moved.items)
-    (map choice_json (filter is_choice r.notices.items))
-    (map alarm_json (filter is_loss r.notices.items))
+    (map notice_json (filter is_choice r.notices.items))
+    (map notice_json (filter is_loss r.notices.items))
 
 -- of sides that are in conflict about this
 abbrev pub conflicts_json : LockfileConflicts → Json

@@ -292,7 +292,7 @@ fn item_of<'a, 'd>(alloc: Global, conflict: Conflict<'a>) -> Result<Item<'a, 'd>
 
 // The item of a conflict about what is at a place.
 fn item_at_place<'a, 'd>(message: String, conflict: Matter<'a>) -> Item<'a, 'd>
-    ensures { item_data result ≡ conflict_at_place (string_bytes message.entry) conflict.entry }
+    ensures { item_data result ≡ conflict_at_place (string_bytes message) conflict.entry }
 {
     Item {
         kind: place_kind(conflict.kind),
@@ -307,7 +307,7 @@ fn item_at_place<'a, 'd>(message: String, conflict: Matter<'a>) -> Item<'a, 'd>
 
 // The item of a conflict about the commit of a git source.
 fn item_of_source<'a, 'd>(message: String, commits: SourceCommits<'a>) -> Item<'a, 'd>
-    ensures { item_data result ≡ conflict_of_source (string_bytes message.entry) commits.entry }
+    ensures { item_data result ≡ conflict_of_source (string_bytes message) commits.entry }
 {
     Item {
         kind: "source",
@@ -365,11 +365,11 @@ impl ToJson for Moved<'_> {
     fn write_json(&self, out: &mut JsonWriter) -> Result<(), AllocError> {
         out.begin_object()?;
         out.displayed_member("message", self)?;
-        let Reference { from, to } = self.merged();
+        let Reference { from, to } = self.found.merged;
         put_unchecked(out, "package", from)?;
         put_unchecked(out, "dependency", to)?;
-        put_reference_or_null(out, "ours", self.ours())?;
-        put_reference_or_null(out, "theirs", self.theirs())?;
+        put_reference_or_null(out, "ours", self.found.ours)?;
+        put_reference_or_null(out, "theirs", self.found.theirs)?;
         out.end_object()
     }
 }
@@ -537,7 +537,6 @@ fn put_version(
 }
 
 // Writes a checksum that a side lost.
-#[tactic(auto, unfolding(crate::specs::Document::alarm_json))]
 fn write_alarm(out: &mut JsonWriter, notice: &Notice<'_>) -> Result<(), AllocError>
     ensures { Adds result out.old out.new (json_tokens (alarm_json (matter_of notice.now))) }
 {
