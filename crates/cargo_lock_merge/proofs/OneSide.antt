@@ -16,7 +16,7 @@ agreed-ours b o t x (inr (inr theirs)) same = theirs.1
 pub one-side-is-merged : OneSideIsMerged
 one-side-is-merged s m p b o t x one h base ours theirs merged none same =
     let (c, from) = from-at s one.base one.ours one.theirs p x (Some b) (Some o) (Some t) merged.1
-        (record { base = base; ours = ours; theirs = theirs }) (h.each x merged.0) in
+    (record { base = base; ours = ours; theirs = theirs }) (h.each x merged.0) in
     ap identity_key from.identity ∙ elim from.chosen.1 [
       | inl git ↦ absurd (none git.0)
       | inr rule ↦ elim rule.1 [

@@ -41,8 +41,8 @@ none-both old more new is before later = is ∙ ap (λ all. all ++ more) before 
 pub told-both : (asked : Form) (first second : List LockfileFound) (old more new : KeptTold) → new.text ≡ old.text ++ more.text
     → new.reported ≡ old.reported ++ more.reported → IsToldAs asked first old → IsToldAs asked second more → IsToldAs asked (first ++ second) new
 told-both form.Lines first second old more new text reported before later = (
-    texts-both (λ (f : LockfileFound). f.lines) first second old.text more.text new.text text before.0 later.0,
-    none-both old.reported more.reported new.reported reported before.1 later.1,
+  texts-both (λ (f : LockfileFound). f.lines) first second old.text more.text new.text text before.0 later.0,
+  none-both old.reported more.reported new.reported reported before.1 later.1,
 )
 told-both form.Json first second old more new text reported before later =
     let (one, ones, is_one, none_one) = before in
@@ -54,12 +54,12 @@ told-both form.Json first second old more new text reported before later =
       none-both old.reported more.reported new.reported reported none_one none_two,
     )
 told-both form.Sarif first second old more new text reported before later = (
-    none-both old.text more.text new.text text before.0 later.0,
-    reports-both first second old.reported more.reported new.reported reported before.1 later.1,
+  none-both old.text more.text new.text text before.0 later.0,
+  reports-both first second old.reported more.reported new.reported reported before.1 later.1,
 )
 told-both form.Github first second old more new text reported before later = (
-    none-both old.text more.text new.text text before.0 later.0,
-    reports-both first second old.reported more.reported new.reported reported before.1 later.1,
+  none-both old.text more.text new.text text before.0 later.0,
+  reports-both first second old.reported more.reported new.reported reported before.1 later.1,
 )
 
 -- ---- one lockfile
