@@ -12,5 +12,5 @@ merges-are-sound s (Merged lockfile text remarks) is =
 merges-are-sound s (InConflict conflicts) is = tt
 
 pub merges-read-back : MergesReadBack
-merges-read-back s (Merged lockfile text remarks) is = is.1.1
+merges-read-back s (Merged lockfile text remarks) is = is.2
 merges-read-back s (InConflict conflicts) is = tt
