@@ -1,5 +1,5 @@
 -- The depth of the document of a merge.
-use Rattle.std.proofs.Common.{◌≤◌, ℕ, Bool, true, false, List, Option, None, Some, arith, cond, map, option_map}
+use Rattle.std.proofs.Common.{◌≤◌, ℕ, Bool, true, false, List, Option, None, Some, arith, cond, option_map}
 use Rattle.std.specs.Borrow.{Bor}
 use Rattle.json.specs.Tree.{depth}
 use Rattle.cargo_lock_display.proofs.Depth.{identity-depth, package-depth}

@@ -1,5 +1,5 @@
 -- What a merge returns, by places alone: no definition here speaks of numbers of places.
-use Rattle.std.specs.Prelude.{◌≡◌, ◌≢◌, ◌↔◌, All, List, [], ◌∷◌, Option, Some, None, map}
+use Rattle.std.specs.Prelude.{◌≡◌, ◌≢◌, ◌↔◌, All, List, [], ◌∷◌, Option, Some, map}
 use Rattle.std.specs.Prelude.{option_map}
 use Rattle.std.specs.List.{AllPairs, AllZip, Contains}
 use Rattle.cargo_lock_parts.specs.Identity.{PackageData}
