@@ -11,6 +11,6 @@ returns-in-Ok-clause-printed g c =
       c.in_ok-three.ensures.base,
       c.in_ok-three.ensures.ours,
       c.in_ok-three.ensures.theirs,
-      c.merge_lockfiles.ensures.ok,
+      rw c.in-Ok.is at c.merge_lockfiles.ensures.ok,
       (c.in_ok-telling.telling, c.in_ok-telling.ensures, printed),
     )) c.put_merge.ensures.printed
