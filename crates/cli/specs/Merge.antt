@@ -1,11 +1,12 @@
 -- What `merge` leaves in the writer for standard output, and its status.
-use Rattle.std.specs.Prelude.{◌≡◌, ℕ, List, Option, codes, string_bytes}
+use Rattle.std.specs.Prelude.{◌≡◌, ◌⊎◌, ℕ, List, Option, codes, string_bytes}
 use Rattle.std.specs.Io.KnownBytes.{Keeps}
 use Rattle.clap.specs.Matches.{first_value}
 use Rattle.clap.specs.declared.parser.matches.Found.{Found}
 use Rattle.cargo_lock_encoding.specs.Lockfiles.{LockfileData}
 use Rattle.cargo_lock_merge.specs.Document.{conflicts_json, merged_json, refused_json}
-use Rattle.cargo_lock_merge.specs.MergedLockfiles.{MergesTo, triple_of}
+use Rattle.cargo_lock_merge.specs.MergedLockfiles.{IsMergeError, LockfileTriple, MergesTo}
+use Rattle.cargo_lock_merge.specs.MergedLockfiles.{triple_of}
 use Rattle.cargo_lock_merge.specs.declared.lockfiles.LockfileConflicts.{LockfileConflicts}
 use Rattle.cargo_lock_merge.specs.declared.lockfiles.LockfileMerge.{LockfileMerge}
 use Rattle.cargo_lock_merge.specs.declared.lockfiles.LockfileMerge.TheVariants.{InConflict, Merged}
@@ -42,10 +43,10 @@ PrintsConflicts Lines conflicts old new = Keeps old new
 PrintsConflicts Document conflicts old new =
     PrintsLine (IsJsonText (conflicts_json conflicts)) old new
 
--- so do lockfiles that cannot be merged
+-- why lockfiles cannot be merged is one line too, where a document is told
 abbrev pub PrintsRefusal : Telling → MergeError → Option (List ℕ) → Option (List ℕ) → Type 0
-PrintsRefusal Lines error old new = Keeps old new
-PrintsRefusal Document error old new = PrintsLine (IsJsonText (refused_json error)) old new
+PrintsRefusal telling error old new = (telling ≡ Document)
+    × PrintsLine (IsJsonText (refused_json error)) old new
 
 -- a merge is printed and ends with success, and conflicts end with a failure
 abbrev pub PrintsMergeAs : Telling → Found → LockfileMerge → Option (List ℕ) → Option (List ℕ)
@@ -55,23 +56,26 @@ PrintsMergeAs telling found (Merged lockfile text remarks) old new failure succe
 PrintsMergeAs telling found (InConflict conflicts) old new failure success =
     PrintsConflicts telling conflicts old new × failure
 
--- the same as the arguments ask for it
-abbrev pub PrintsMergeOf : Found → LockfileMerge → Option (List ℕ) → Option (List ℕ) → Type 0
-    → Type 0 → Type 0
-PrintsMergeOf found m old new failure success = (telling : Telling) × IsTelling found telling
-    × PrintsMergeAs telling found m old new failure success
+-- their merge is printed; or they have none, and the document says why, and the status is that of a
+-- fault
+abbrev pub PrintsMergeOf : Telling → Found → LockfileTriple → Option (List ℕ) → Option (List ℕ)
+    → Type 0 → Type 0 → Type 0 → Type 0
+PrintsMergeOf telling found s old new failure success fault =
+    ((m : LockfileMerge) × MergesTo s m × PrintsMergeAs telling found m old new failure success)
+    ⊎ ((e : MergeError) × IsMergeError s e × PrintsRefusal telling e old new × fault)
 
 -- the lockfile is one that some text means, with the checksums that Cargo reads, and with crates.io
 -- as Cargo writes it
 abbrev pub IsMeantForMerge : LockfileData → Type 0
 IsMeantForMerge x = (l : LockfileData) × IsMeantWithCargoChecksums l × (x ≡ with_cargo_spelling l)
 
--- the same for the merge of three lockfiles that some texts mean
+-- the same of three lockfiles that some texts mean, as the arguments ask for it
 abbrev pub PrintsMerge : Found → Option (List ℕ) → Option (List ℕ) → Type 0 → Type 0 → Type 0
-PrintsMerge found old new failure success = (b o t : LockfileData) × (m : LockfileMerge)
+    → Type 0
+PrintsMerge found old new failure success fault = (b o t : LockfileData)
     × IsMeantForMerge b × IsMeantForMerge o × IsMeantForMerge t
-    × MergesTo (triple_of b o t) m
-    × PrintsMergeOf found m old new failure success
+    × (telling : Telling) × IsTelling found telling
+    × PrintsMergeOf telling found (triple_of b o t) old new failure success fault
 
 -- each of the three is a lockfile that some text means, as it is merged
 pub record AreCompared (three : Three) : Type 0 where

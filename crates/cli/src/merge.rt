@@ -1,6 +1,7 @@
 //! The command `merge`: two lockfiles, merged over their common ancestor.
 ghost use Rattle.std.specs.Prelude.{◌≡◌, ◌∷◌, ◌++◌, [], IfOk, OnOk, codes};
 ghost use Rattle.std.specs.Io.KnownBytes.{Appends, Keeps};
+ghost use Rattle.std.specs.Process.{exit_status};
 ghost use Rattle.clap.specs.Matches.{first_value, found_of};
 ghost use Rattle.cargo_lock_parts.specs.Ascii.{newline};
 ghost use Rattle.cli_input.specs.Load.{IsMeantWithCargoChecksums};
@@ -91,9 +92,9 @@ enum Telling {
 /// then 0. Where the sides are in conflict nothing is written, and the status is 1. What standard
 /// error is to have comes with the status: a line for each conflict, or for each version that was
 /// chosen, each checksum that a side lost, and each dependency that neither side has. If the arguments
-/// ask for JSON, `out` gets all that as one line in its place, also of lockfiles that cannot be merged.
-/// Fails if a lockfile is not read or cannot be merged, if JSON is asked for and the output is no file,
-/// and if the output fails.
+/// ask for JSON, `out` gets all that as one line in its place. That line also says why lockfiles cannot
+/// be merged, and the status is then 2. Fails if lockfiles cannot be merged otherwise, if one is not
+/// read, if JSON is asked for and the output is no file, and if the output fails.
 pub(crate) fn run<R: Files + Input + AllocGlobal, W: Write>(
     rt: &R,
     options: &ArgMatches<'_>,
@@ -101,7 +102,8 @@ pub(crate) fn run<R: Files + Input + AllocGlobal, W: Write>(
 ) -> Result<Ended, Fault>
     ensures printed { IfOk result (λ ended. PrintsMerge (found_of options.now)
         (W.contents out.old) (W.contents out.new)
-        (status_in ended ≡ ExitCode.FAILURE) (status_in ended ≡ ExitCode.SUCCESS)) }
+        (status_in ended ≡ ExitCode.FAILURE) (status_in ended ≡ ExitCode.SUCCESS)
+        (exit_status (status_in ended) ≡ 2)) }
     ensures end { IfOk result IsEnd }
 {
     let telling = asked(rt.alloc(), options)?;
@@ -109,10 +111,7 @@ pub(crate) fn run<R: Files + Input + AllocGlobal, W: Write>(
     match merge_lockfiles(rt.alloc(), &three.base, &three.ours, &three.theirs) {
         Ok(merge) => put_merge(rt, options, telling, merge, out),
         Err(MergeError::Memory) => Err(Fault::Library(Error::Memory)),
-        Err(error) => {
-            put_refusal(rt.alloc(), telling, &error, out)?;
-            Err(fault_of(rt.alloc(), &error))
-        }
+        Err(error) => put_refusal(rt.alloc(), telling, &error, out),
     }
 }
 
@@ -202,21 +201,25 @@ fn fault_of(alloc: Global, error: &MergeError<'_>) -> Fault {
     }
 }
 
-/// Prints the document of lockfiles that are not merged, if that is told.
+/// Prints the document of lockfiles that cannot be merged, if that is told. Returns the status of a
+/// fault, with the fault. Otherwise fails with it.
 fn put_refusal<W: Write>(
     alloc: Global,
     telling: Telling,
     error: &MergeError<'_>,
     out: &mut W,
-) -> Result<(), Fault>
-    ensures { OnOk result
-        (PrintsRefusal telling error.now (W.contents out.old) (W.contents out.new)) }
+) -> Result<Ended, Fault>
+    ensures printed { IfOk result (λ ended. PrintsRefusal telling error.now
+        (W.contents out.old) (W.contents out.new) × (exit_status (status_in ended) ≡ 2)) }
+    ensures end { IfOk result IsEnd }
 {
     match telling {
-        Telling::Lines => Ok(()),
+        Telling::Lines => Err(fault_of(alloc, error)),
         Telling::Document => {
+            let faults = vec![in alloc; fault_of(alloc, error)]?;
             let document = refused_json(alloc, error)?;
-            put_line(out, document.as_str())
+            put_line(out, document.as_str())?;
+            Ok(Ended::Failed(ExitCode::from(2), faults, String::new(alloc)))
         }
     }
 }

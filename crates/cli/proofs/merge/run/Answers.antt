@@ -7,10 +7,10 @@ returns-in-Ok-clause-printed g c =
       c.in_ok-three.three.base,
       c.in_ok-three.three.ours,
       c.in_ok-three.three.theirs,
-      c.in-Ok.merge,
       c.in_ok-three.ensures.base,
       c.in_ok-three.ensures.ours,
       c.in_ok-three.ensures.theirs,
-      rw c.in-Ok.is at c.merge_lockfiles.ensures.ok,
-      (c.in_ok-telling.telling, c.in_ok-telling.ensures, printed),
+      c.in_ok-telling.telling,
+      c.in_ok-telling.ensures,
+      inl (c.in-Ok.merge, rw c.in-Ok.is at c.merge_lockfiles.ensures.ok, printed),
     )) c.put_merge.ensures.printed
