@@ -4,10 +4,13 @@ use Rattle.std.specs.Prelude.{IsUtf8, string_bytes}
 use Rattle.cargo_lock.specs.CargoChecksums.{with_cargo_checksums_in}
 use Rattle.cargo_lock_encoding.specs.Lockfiles.{LockfileData}
 use Rattle.cargo_lock_encoding.specs.Means.{TextMeans}
+use Rattle.cargo_lock_layout.specs.Lines.{comments_of}
+use Rattle.cargo_lock_merge.specs.Comments.{AreMergedComments, comments_line}
 use Rattle.cargo_lock_merge.specs.Lines.{conflicts_text, merge_error_text, remark_lines}
 use Rattle.cargo_lock_merge.specs.MergedLockfiles.{IsMergeError, LockfileTriple, MergesTo}
 use Rattle.cargo_lock_merge.specs.MergedLockfiles.{triple_of}
 use Rattle.cargo_lock_merge.specs.Spelling.{with_cargo_spelling}
+use Rattle.cargo_lock_merge.specs.declared.comments.MergedComments.{MergedComments}
 use Rattle.cargo_lock_merge.specs.declared.lockfiles.LockfileMerge.{LockfileMerge}
 use Rattle.cargo_lock_merge.specs.declared.lockfiles.LockfileMerge.TheVariants as merge
 use Rattle.cargo_lock_merge.specs.declared.lockfiles.MergeError.{MergeError}
@@ -24,6 +27,7 @@ use Rattle.cargo_lock_c.specs.declared.refusal.Refusal.{Refusal}
 use Rattle.cargo_lock_c.specs.declared.refusal.Refusal.TheVariants.{NoLockfile, NoText, NoMemory}
 use Rattle.cargo_lock_c.specs.declared.refusal.Refusal.TheVariants.{NoNewLockfile, NoNewText}
 use Rattle.cargo_lock_c.specs.declared.refusal.Refusal.TheVariants.{NoThirdLockfile, NoThirdText}
+use Rattle.cargo_lock_c.specs.declared.three.Side.{Side}
 use Rattle.cargo_lock_c.specs.declared.three.Three.{Three}
 use Rattle.cargo_lock_c.specs.Answers.{IsHandedOut}
 use Rattle.cargo_lock_c.specs.Statuses.{status_of}
@@ -41,6 +45,11 @@ abbrev pub IsComparedOf : List ℕ → LockfileData → Type 0
 IsComparedOf text x = (l : LockfileData) × TextMeans text l
     × (x ≡ with_cargo_spelling (with_cargo_checksums_in l))
 
+-- the text is that of a lockfile, and this is it as it is merged, with the comments at the top of the
+-- text that Cargo keeps
+abbrev pub IsSideOf : List ℕ → Side → Type 0
+IsSideOf text side = IsComparedOf text side.lockfile × (string_bytes side.comments ≡ comments_of text)
+
 -- these are the lockfiles of the three texts
 pub record AreOfTexts (first second third : List ℕ) (s : LockfileTriple) : Type 0 where
   pub base : IsComparedOf first s.base
@@ -49,7 +58,18 @@ pub record AreOfTexts (first second third : List ℕ) (s : LockfileTriple) : Typ
 
 -- the three lockfiles
 abbrev pub triple_of_texts : Three → LockfileTriple
-triple_of_texts three = triple_of three.base three.ours three.theirs
+triple_of_texts three = triple_of three.base.lockfile three.ours.lockfile three.theirs.lockfile
+
+-- these are the comments of the merge of the three texts
+abbrev pub AreCommentsOf : (first second third : List ℕ) → MergedComments → Type 0
+AreCommentsOf first second third =
+    AreMergedComments (comments_of first) (comments_of second) (comments_of third)
+
+-- these are the sides of the three texts
+pub record AreSidesOf (first second third : List ℕ) (three : Three) : Type 0 where
+  pub base : IsSideOf first three.base
+  pub ours : IsSideOf second three.ours
+  pub theirs : IsSideOf third three.theirs
 
 -- Why three texts have no merge: memory ran out, or one of them is not that of a lockfile or not
 -- UTF-8. They are read in their order.
@@ -76,16 +96,16 @@ status_with (Refused Ours) = 17
 status_with (Refused Theirs) = 18
 
 -- what is asked of a merge that there is: its text, or the lines of what it reports
-abbrev pub asked_text : Part → List ℕ → Remarks → List ℕ
-asked_text Text text remarks = text
-asked_text Moved text remarks = remark_lines remarks
+abbrev pub asked_text : Part → MergedComments → List ℕ → Remarks → List ℕ
+asked_text Text comments text remarks = text
+asked_text Moved comments text remarks = comments_line comments ++ remark_lines remarks
 
 -- how a merge of lockfiles ends, and the text about it: what is asked of it, or a line for each
 -- conflict
-abbrev pub IsTextAbout : Part → LockfileMerge → Ending → List ℕ → Type 0
-IsTextAbout part (merge.Merged l text remarks) ending bytes = (ending ≡ Merged)
-    × (bytes ≡ asked_text part (string_bytes text) remarks)
-IsTextAbout part (merge.InConflict conflicts) ending bytes = (ending ≡ InConflict)
+abbrev pub IsTextAbout : Part → MergedComments → LockfileMerge → Ending → List ℕ → Type 0
+IsTextAbout part comments (merge.Merged l text remarks) ending bytes = (ending ≡ Merged)
+    × (bytes ≡ asked_text part comments (string_bytes text) remarks)
+IsTextAbout part comments (merge.InConflict conflicts) ending bytes = (ending ≡ InConflict)
     × (bytes ≡ conflicts_text conflicts)
 
 -- the lockfile that cannot be merged, if memory did not run out
@@ -99,16 +119,17 @@ abbrev pub IsTextAboutError : MergeError → Ending → List ℕ → Type 0
 IsTextAboutError fault ending bytes = (role : Role) × (refused_role fault ≡ Some role)
     × (ending ≡ Refused role) × (bytes ≡ merge_error_text fault ++ newline ∷ [])
 
--- the text about three lockfiles: what their merge is, or why there is none
-abbrev pub IsTextOfMerge : Part → LockfileTriple → Ending → List ℕ → Type 0
-IsTextOfMerge part s ending bytes =
-    ((m : LockfileMerge) × MergesTo s m × IsTextAbout part m ending bytes)
+-- the text about three lockfiles: what their merge with these comments is, or why there is none
+abbrev pub IsTextOfMerge : Part → MergedComments → LockfileTriple → Ending → List ℕ → Type 0
+IsTextOfMerge part comments s ending bytes =
+    ((m : LockfileMerge) × MergesTo comments.text.now s m × IsTextAbout part comments m ending bytes)
     ⊎ ((fault : MergeError) × IsMergeError s fault × IsTextAboutError fault ending bytes)
 
 -- the three texts are those of lockfiles, and this is the text about them
 abbrev pub IsMergeText : Part → (base ours theirs : List ℕ) → Ending → List ℕ → Type 0
-IsMergeText part base ours theirs ending bytes = (s : LockfileTriple)
-    × AreOfTexts base ours theirs s × IsTextOfMerge part s ending bytes
+IsMergeText part base ours theirs ending bytes = (s : LockfileTriple) × (comments : MergedComments)
+    × AreOfTexts base ours theirs s × AreCommentsOf base ours theirs comments
+    × IsTextOfMerge part comments s ending bytes
 
 -- ---- what callers get
 

@@ -78,6 +78,7 @@ unfolding merge_document
 document-depth d = omega (
   arith,
   text-depth (option_map (λ (t : Bor (List ℕ)). t.now) d.message),
+  text-depth (option_map (λ (t : Bor (List ℕ)). t.now) d.comments),
   array-depth 4 item_json (λ (i : Item). conflict-depth (item_data i)) d.conflicts.now,
   array-depth 5 moved_json moved-depth d.moved.now,
   array-depth 4 (λ (n : Notice). notice_json (matter_of n)) notice-depth d.versions.now,

@@ -5,12 +5,12 @@ use Rattle.cargo_lock_merge.specs.Headline.{MergesAreSound, MergesReadBack}
 use Rattle.cargo_lock_merge.specs.MergedLockfiles.{packages_of}
 
 pub merges-are-sound : MergesAreSound
-merges-are-sound s (Merged lockfile text remarks) is =
+merges-are-sound comments s (Merged lockfile text remarks) is =
     let (packages, found, referring) = is.0.packages in
     let (commits, at_places) = lists-sound (packages_of s) packages found.merge found.commits in
     (packages, found.merge, referring, commits, at_places)
-merges-are-sound s (InConflict conflicts) is = tt
+merges-are-sound comments s (InConflict conflicts) is = tt
 
 pub merges-read-back : MergesReadBack
-merges-read-back s (Merged lockfile text remarks) is = is.2
-merges-read-back s (InConflict conflicts) is = tt
+merges-read-back comments s (Merged lockfile text remarks) is = is.2
+merges-read-back comments s (InConflict conflicts) is = tt

@@ -5,6 +5,8 @@ use Rattle.std.specs.Borrow.{Bor}
 use Rattle.json.specs.Json.{Json, array, null, string, object, member, no_members}
 use Rattle.semver.specs.Identifiers.{parts_text}
 use Rattle.cargo_lock_display.specs.PackageJson.{dependency_json, package_or_null}
+use Rattle.cargo_lock_merge.specs.Comments.{comments_word}
+use Rattle.cargo_lock_merge.specs.declared.comments.MergedComments.{MergedComments}
 use Rattle.cargo_lock_merge.specs.declared.conflict.Conflict.{Conflict}
 use Rattle.cargo_lock_merge.specs.declared.conflict.Conflict.TheVariants.{AtPlace, OfSource}
 use Rattle.cargo_lock_merge.specs.declared.document.Document.{Document}
@@ -200,32 +202,36 @@ notice_json c = if is_loss c then alarm_json c else choice_json c
 
 -- ---- the document
 
--- the document of an outcome, with why it is refused, and of what there is to say, as it is in JSON
+-- the document of an outcome, with why it is refused, of what there is to say, as it is in JSON, and
+-- of whose the comments at the top are
 unfoldable pub merge_document : List ℕ → Option (List ℕ) → List Json → List Json → List Json
-    → List Json → Json
-merge_document outcome message conflicts moved versions alarms = object
+    → List Json → Option (List ℕ) → Json
+merge_document outcome message conflicts moved versions alarms comments = object
     (member (codes "schema") (string (codes "cargo-lock-merge/1"))
     (member (codes "outcome") (string outcome)
     (member (codes "message") (text_or_null message)
     (member (codes "conflicts") (array (items_of conflicts))
     (member (codes "moved") (array (items_of moved))
     (member (codes "versions") (array (items_of versions))
-    (member (codes "alarms") (array (items_of alarms)) no_members)))))))
+    (member (codes "alarms") (array (items_of alarms))
+    (member (codes "comments") (text_or_null comments) no_members))))))))
 
--- of a merge that reports this
-abbrev pub merged_json : Remarks → Json
-merged_json r = merge_document (codes "merged") None [] (map moved_json r.moved.items)
+-- of a merge with these comments that reports this
+abbrev pub merged_json : MergedComments → Remarks → Json
+merged_json comments r = merge_document (codes "merged") None [] (map moved_json r.moved.items)
     (map notice_json (filter is_choice r.notices.items))
     (map notice_json (filter is_loss r.notices.items))
+    (Some (comments_word comments))
 
 -- of sides that are in conflict about this
 abbrev pub conflicts_json : LockfileConflicts → Json
 conflicts_json c = merge_document (codes "conflicts") None (map conflict_json (conflicts_data c))
-    [] [] []
+    [] [] [] None
 
 -- of lockfiles that are not merged, and why
 abbrev pub refused_json : MergeError → Json
 refused_json error = merge_document (codes "refused") (Some (merge_error_text error)) [] [] [] []
+    None
 
 -- ---- as the program has them
 
@@ -255,3 +261,4 @@ merge_parts_json d = merge_document d.outcome.now (option_map (λ t. t.now) d.me
     (map item_json d.conflicts.now) (map moved_json d.moved.now)
     (map (λ n. notice_json (matter_of n)) d.versions.now)
     (map (λ n. notice_json (matter_of n)) d.alarms.now)
+    (option_map (λ t. t.now) d.comments)

@@ -1,6 +1,6 @@
 -- What a merge of lockfiles promises, as one statement. `merge_lockfiles` returns what `MergesTo`
 -- says, and each field is a law of that, or of the merge of the three lists of packages.
-use Rattle.std.specs.Prelude.{◌≡◌, List, Some, string_bytes}
+use Rattle.std.specs.Prelude.{◌≡◌, ℕ, List, Some, string_bytes}
 use Rattle.std.specs.List.{AllZip}
 use Rattle.cargo_lock_parts.specs.Identity.{PackageData}
 use Rattle.cargo_lock_merge_core.specs.Choices.{AreOfGit}
@@ -39,7 +39,8 @@ IsSoundIfMerged s (InConflict conflicts) = Unit {0}
 
 -- the same of each merge
 abbrev pub MergesAreSound : Type 0
-MergesAreSound = (s : LockfileTriple) (m : LockfileMerge) → MergesTo s m → IsSoundIfMerged s m
+MergesAreSound = (comments : List ℕ) (s : LockfileTriple) (m : LockfileMerge)
+    → MergesTo comments s m → IsSoundIfMerged s m
 
 -- the text of a merge reads back as it
 abbrev pub ReadsBackIfMerged : LockfileMerge → Type 0
@@ -48,7 +49,8 @@ ReadsBackIfMerged (InConflict conflicts) = Unit {0}
 
 -- the same of each merge
 abbrev pub MergesReadBack : Type 0
-MergesReadBack = (s : LockfileTriple) (m : LockfileMerge) → MergesTo s m → ReadsBackIfMerged m
+MergesReadBack = (comments : List ℕ) (s : LockfileTriple) (m : LockfileMerge)
+    → MergesTo comments s m → ReadsBackIfMerged m
 
 -- the promises of a merge in one
 pub record MergeHeadline : Type 0 where

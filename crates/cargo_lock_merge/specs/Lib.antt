@@ -2,6 +2,7 @@ pub mod Order
 pub mod Moved
 pub mod Words
 pub mod Lines
+pub mod Comments
 pub mod Conflict
 pub mod Notice
 pub mod Outcome

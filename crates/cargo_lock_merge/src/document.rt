@@ -16,6 +16,7 @@ ghost use Rattle.cargo_lock_merge.specs.Words.{bare_text};
 ghost use Rattle.printing.specs.Json.{Adds, IsJsonText};
 ghost use Rattle.printing.specs.Value.{text_or_null};
 
+use crate::comments::MergedComments;
 use crate::conflict::Conflict;
 use crate::lines::{FormatLine, MetadataLine};
 use crate::lockfiles::{LockfileConflicts, MergeError};
@@ -33,15 +34,20 @@ use printing::{JsonWriter, ToJson, json_line, write_array, write_text_or_null};
 use std::alloc::{AllocError, Global};
 use std::collections::BTreeMap;
 
-/// The document of a merge that reports this, in one line: `{"schema":"cargo-lock-merge/1",
-/// "outcome":"merged","message":null,"conflicts":[],"moved":[..],"versions":[..],"alarms":[..]}`.
-/// Fails when out of memory.
+/// The document of a merge with these comments that reports this, in one line:
+/// `{"schema":"cargo-lock-merge/1","outcome":"merged","message":null,"conflicts":[],"moved":[..],
+/// "versions":[..],"alarms":[..],"comments":"agreed"}`. Fails when out of memory.
 ///
 /// ```
-/// let text = merged_json(rt.alloc(), &remarks)?;
+/// let text = merged_json(rt.alloc(), comments, &remarks)?;
 /// ```
-pub fn merged_json(alloc: Global, remarks: &Remarks<'_>) -> Result<String, AllocError>
-    ensures { IfOk result (λ text. IsJsonText (spec.merged_json remarks.now) (string_bytes text)) }
+pub fn merged_json(
+    alloc: Global,
+    comments: MergedComments<'_>,
+    remarks: &Remarks<'_>,
+) -> Result<String, AllocError>
+    ensures { IfOk result
+        (λ text. IsJsonText (spec.merged_json comments remarks.now) (string_bytes text)) }
 {
     let told = Told::of(alloc, &remarks.notices)?;
     document_text(
@@ -53,12 +59,14 @@ pub fn merged_json(alloc: Global, remarks: &Remarks<'_>) -> Result<String, Alloc
             moved: &remarks.moved,
             versions: &told.versions,
             alarms: &told.alarms,
+            comments: Some(comments.word()),
         },
     )
 }
 
 /// The document of sides that are in conflict, in one line: `{"schema":"cargo-lock-merge/1",
-/// "outcome":"conflicts","message":null,"conflicts":[..],"moved":[],"versions":[],"alarms":[]}`.
+/// "outcome":"conflicts","message":null,"conflicts":[..],"moved":[],"versions":[],"alarms":[],
+/// "comments":null}`.
 /// Fails when out of memory.
 ///
 /// ```
@@ -81,12 +89,14 @@ pub fn conflicts_json(
             moved: &[],
             versions: &[],
             alarms: &[],
+            comments: None,
         },
     )
 }
 
 /// The document of lockfiles that are not merged, in one line: `{"schema":"cargo-lock-merge/1",
-/// "outcome":"refused","message":"ours: ..","conflicts":[],"moved":[],"versions":[],"alarms":[]}`.
+/// "outcome":"refused","message":"ours: ..","conflicts":[],"moved":[],"versions":[],"alarms":[],
+/// "comments":null}`.
 /// Fails when out of memory.
 ///
 /// ```
@@ -105,6 +115,7 @@ pub fn refused_json(alloc: Global, error: &MergeError<'_>) -> Result<String, All
             moved: &[],
             versions: &[],
             alarms: &[],
+            comments: None,
         },
     )
 }
@@ -120,6 +131,7 @@ struct Document<'a, 'd> {
     moved: &'d [Moved<'a>],
     versions: &'d [Notice<'a>],
     alarms: &'d [Notice<'a>],
+    comments: Option<&'static str>,
 }
 
 impl ToJson for Document<'_, '_> {
@@ -140,6 +152,7 @@ impl ToJson for Document<'_, '_> {
         write_array(out, self.versions)?;
         out.key("alarms")?;
         write_array(out, self.alarms)?;
+        write_text_or_null(out, "comments", self.comments)?;
         out.end_object()
     }
 }

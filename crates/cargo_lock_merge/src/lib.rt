@@ -3,6 +3,7 @@
 #![tactic(auto)]
 
 mod assemble;
+pub mod comments;
 pub mod conflict;
 pub mod document;
 mod format;
@@ -20,6 +21,7 @@ pub mod refused;
 pub mod spelling;
 mod words;
 
+pub use crate::comments::merge_comments;
 pub use crate::document::{conflicts_json, merged_json, refused_json};
 pub use crate::lockfiles::merge_lockfiles;
 pub use crate::outcome::merge;

@@ -1,20 +1,24 @@
 -- What `merge` leaves in the writer for standard output, and its status.
-use Rattle.std.specs.Prelude.{◌≡◌, ◌⊎◌, ℕ, List, Option, codes, string_bytes}
+use Rattle.std.specs.Prelude.{◌≡◌, ◌⊎◌, ℕ, List, [], Option, codes, string_bytes}
 use Rattle.std.specs.Io.KnownBytes.{Keeps}
 use Rattle.clap.specs.Matches.{first_value}
 use Rattle.clap.specs.declared.parser.matches.Found.{Found}
 use Rattle.cargo_lock_encoding.specs.Lockfiles.{LockfileData}
+use Rattle.cargo_lock_layout.specs.Lines.{comments_of}
+use Rattle.cargo_lock_merge.specs.Comments.{AreMergedComments}
 use Rattle.cargo_lock_merge.specs.Document.{conflicts_json, merged_json, refused_json}
 use Rattle.cargo_lock_merge.specs.MergedLockfiles.{IsMergeError, LockfileTriple, MergesTo}
 use Rattle.cargo_lock_merge.specs.MergedLockfiles.{triple_of}
 use Rattle.cargo_lock_merge.specs.declared.lockfiles.LockfileConflicts.{LockfileConflicts}
+use Rattle.cargo_lock_merge.specs.declared.comments.MergedComments.{MergedComments}
 use Rattle.cargo_lock_merge.specs.declared.lockfiles.LockfileMerge.{LockfileMerge}
 use Rattle.cargo_lock_merge.specs.declared.lockfiles.LockfileMerge.TheVariants.{InConflict, Merged}
 use Rattle.cargo_lock_merge.specs.declared.lockfiles.MergeError.{MergeError}
 use Rattle.cargo_lock_merge.specs.declared.notice.Remarks.{Remarks}
 use Rattle.cargo_lock_merge.specs.Spelling.{with_cargo_spelling}
 use Rattle.cli_input.specs.Json.{IsAsked, IsUnasked, PrintsLine}
-use Rattle.cli_input.specs.Load.{IsMeantWithCargoChecksums}
+use Rattle.cli_input.specs.Load.{IsMeantWithCargoChecksums, MeansWithCargoChecksums}
+use Rattle.cli.specs.declared.merge.Side.{Side}
 use Rattle.cli.specs.declared.merge.Telling.{Telling}
 use Rattle.cli.specs.declared.merge.Telling.TheVariants.{Document, Lines}
 use Rattle.cli.specs.declared.merge.Three.{Three}
@@ -30,12 +34,12 @@ IsTelling found Document = (¬ IsUnasked found (codes "json"))
 
 -- the text of a merged lockfile goes to the output; or, since that is a file, one line is printed, the
 -- document of what the merge reports
-abbrev pub PrintsMerged : Telling → Found → List ℕ → Remarks → Option (List ℕ) → Option (List ℕ)
-    → Type 0
-PrintsMerged Lines found text remarks old new =
+abbrev pub PrintsMerged : Telling → Found → MergedComments → List ℕ → Remarks → Option (List ℕ)
+    → Option (List ℕ) → Type 0
+PrintsMerged Lines found comments text remarks old new =
     TakesOutput (first_value found (codes "output")) text old new
-PrintsMerged Document found text remarks old new =
-    PrintsLine (IsJsonText (merged_json remarks)) old new
+PrintsMerged Document found comments text remarks old new =
+    PrintsLine (IsJsonText (merged_json comments remarks)) old new
 
 -- conflicts leave nothing, or one line, their document
 abbrev pub PrintsConflicts : Telling → LockfileConflicts → Option (List ℕ) → Option (List ℕ) → Type 0
@@ -49,36 +53,56 @@ PrintsRefusal telling error old new = (telling ≡ Document)
     × PrintsLine (IsJsonText (refused_json error)) old new
 
 -- a merge is printed and ends with success, and conflicts end with a failure
-abbrev pub PrintsMergeAs : Telling → Found → LockfileMerge → Option (List ℕ) → Option (List ℕ)
-    → Type 0 → Type 0 → Type 0
-PrintsMergeAs telling found (Merged lockfile text remarks) old new failure success =
-    PrintsMerged telling found (string_bytes text) remarks old new × success
-PrintsMergeAs telling found (InConflict conflicts) old new failure success =
+abbrev pub PrintsMergeAs : Telling → Found → MergedComments → LockfileMerge → Option (List ℕ)
+    → Option (List ℕ) → Type 0 → Type 0 → Type 0
+PrintsMergeAs telling found comments (Merged lockfile text remarks) old new failure success =
+    PrintsMerged telling found comments (string_bytes text) remarks old new × success
+PrintsMergeAs telling found comments (InConflict conflicts) old new failure success =
     PrintsConflicts telling conflicts old new × failure
 
--- their merge is printed; or they have none, and the document says why, and the status is that of a
--- fault
-abbrev pub PrintsMergeOf : Telling → Found → LockfileTriple → Option (List ℕ) → Option (List ℕ)
-    → Type 0 → Type 0 → Type 0 → Type 0
-PrintsMergeOf telling found s old new failure success fault =
-    ((m : LockfileMerge) × MergesTo s m × PrintsMergeAs telling found m old new failure success)
-    ⊎ ((e : MergeError) × IsMergeError s e × PrintsRefusal telling e old new × fault)
+-- the lockfile is one that the text means, with the checksums that Cargo reads, and with crates.io as
+-- Cargo writes it, and these are the comments at the top of the text that Cargo keeps
+abbrev pub IsSideOf : List ℕ → Side → Type 0
+IsSideOf text side = (l : LockfileData) × MeansWithCargoChecksums text l
+    × (side.lockfile ≡ with_cargo_spelling l) × (string_bytes side.comments ≡ comments_of text)
 
--- the lockfile is one that some text means, with the checksums that Cargo reads, and with crates.io
--- as Cargo writes it
-abbrev pub IsMeantForMerge : LockfileData → Type 0
-IsMeantForMerge x = (l : LockfileData) × IsMeantWithCargoChecksums l × (x ≡ with_cargo_spelling l)
+-- the same of some text
+abbrev pub IsSide : Side → Type 0
+IsSide side = (text : List ℕ) × IsSideOf text side
+
+-- the same, or the base is not there: it is a lockfile that some text means, without comments
+abbrev pub IsBase : Side → Type 0
+IsBase side = IsSide side ⊎ ((l : LockfileData) × IsMeantWithCargoChecksums l
+    × (side.lockfile ≡ with_cargo_spelling l) × (string_bytes side.comments ≡ []))
+
+-- these are the comments of the merge of the three
+abbrev pub AreCommentsOf : Three → MergedComments → Type 0
+AreCommentsOf three comments = AreMergedComments (string_bytes three.base.comments)
+    (string_bytes three.ours.comments) (string_bytes three.theirs.comments) comments
+
+-- the three lockfiles
+abbrev pub triple_in : Three → LockfileTriple
+triple_in three = triple_of three.base.lockfile three.ours.lockfile three.theirs.lockfile
+
+-- their merge with these comments is printed; or they have none, and the document says why, and the
+-- status is that of a fault
+abbrev pub PrintsMergeOf : Telling → Found → Three → MergedComments → Option (List ℕ)
+    → Option (List ℕ) → Type 0 → Type 0 → Type 0 → Type 0
+PrintsMergeOf telling found three comments old new failure success fault =
+    ((m : LockfileMerge) × MergesTo comments.text.now (triple_in three) m
+    × PrintsMergeAs telling found comments m old new failure success)
+    ⊎ ((e : MergeError) × IsMergeError (triple_in three) e × PrintsRefusal telling e old new × fault)
 
 -- the same of three lockfiles that some texts mean, as the arguments ask for it
 abbrev pub PrintsMerge : Found → Option (List ℕ) → Option (List ℕ) → Type 0 → Type 0 → Type 0
     → Type 0
-PrintsMerge found old new failure success fault = (b o t : LockfileData)
-    × IsMeantForMerge b × IsMeantForMerge o × IsMeantForMerge t
+PrintsMerge found old new failure success fault = (three : Three) × AreCompared three
+    × (comments : MergedComments) × AreCommentsOf three comments
     × (telling : Telling) × IsTelling found telling
-    × PrintsMergeOf telling found (triple_of b o t) old new failure success fault
+    × PrintsMergeOf telling found three comments old new failure success fault
 
 -- each of the three is a lockfile that some text means, as it is merged
 pub record AreCompared (three : Three) : Type 0 where
-  pub base : IsMeantForMerge three.base
-  pub ours : IsMeantForMerge three.ours
-  pub theirs : IsMeantForMerge three.theirs
+  pub base : IsBase three.base
+  pub ours : IsSide three.ours
+  pub theirs : IsSide three.theirs

@@ -1,23 +1,28 @@
 //! The command `merge`: two lockfiles, merged over their common ancestor.
-ghost use Rattle.std.specs.Prelude.{◌≡◌, ◌∷◌, ◌++◌, [], IfOk, OnOk, codes};
+ghost use Rattle.std.specs.Prelude.{◌≡◌, ◌∷◌, ◌++◌, [], IfErr, IfOk, OnOk, codes};
+ghost use Rattle.std.specs.Prelude.{string_bytes};
 ghost use Rattle.std.specs.Io.KnownBytes.{Appends, Keeps};
 ghost use Rattle.std.specs.Process.{exit_status};
 ghost use Rattle.clap.specs.Matches.{first_value, found_of};
 ghost use Rattle.cargo_lock_parts.specs.Ascii.{newline};
-ghost use Rattle.cli_input.specs.Load.{IsMeantWithCargoChecksums};
+ghost use Rattle.cli_input.specs.Load.{MeansWithCargoChecksums};
+ghost use Rattle.cargo_lock_merge.specs.MergedLockfiles.{IsMergeError, MergesTo};
 ghost use Rattle.cli_support.specs.Destination.{IsPrinted};
 ghost use Rattle.cli.specs.Ending.{IsEnd, status_in};
-ghost use Rattle.cli.specs.Merge.{AreCompared, IsMeantForMerge, IsTelling, PrintsConflicts};
-ghost use Rattle.cli.specs.Merge.{PrintsMerge, PrintsMerged, PrintsMergeAs, PrintsRefusal};
+ghost use Rattle.cli.specs.Merge.{AreCommentsOf, AreCompared, IsBase, IsSide, IsTelling};
+ghost use Rattle.cli.specs.Merge.{PrintsConflicts, PrintsMerge, PrintsMergeAs, PrintsMerged};
+ghost use Rattle.cli.specs.Merge.{PrintsRefusal, triple_in};
 
 use crate::ending::Ended;
 use cargo_lock::{Error, Lockfile};
+use cargo_lock_layout::comments_of;
+use cargo_lock_merge::comments::{MergedComments, merge_comments};
 use cargo_lock_merge::lockfiles::{LockfileConflicts, LockfileMerge, MergeError, merge_lockfiles};
 use cargo_lock_merge::notice::Remarks;
 use cargo_lock_merge::{conflicts_json, merged_json, refused_json, with_cargo_spelling};
 use clap::error::ErrorKind as WordsKind;
 use clap::{Arg, ArgMatches, Command};
-use cli_input::load::{compared_lockfile, lockfile_without_packages};
+use cli_input::load::{WithText, compared_with_text, lockfile_without_packages};
 use cli_support::destination::put_own_out;
 use cli_support::output::put;
 use cli_support::words::{any_size, is_standard, lockfile_path, output, output_file};
@@ -29,11 +34,13 @@ use std::rt::Files;
 
 /// The lines of `merge` and its statuses, as help shows them.
 const MERGE_HELP: &str = "\
-Packages are merged by what they are, and not line by line. On standard error is a line for
+Packages are merged by what they are, and not line by line. The text is as Cargo writes it, with the \
+comments at the top that Cargo keeps. On standard error is a line for
   conflict: what both sides changed, each to something else; nothing is written
   version: a member whose version both sides changed; the greater one is taken
   alarm: a checksum that a side lost; it is kept
   moved: a dependency on a package that neither side has for it
+  comments: both sides changed those at the top; ours are taken
 A BASE that is empty or not there is a lockfile without packages. No lockfile says whether a \
 requirement admits a version, so run `cargo metadata --locked` after a merge.
 
@@ -70,12 +77,53 @@ fn json<'a>(alloc: Global) -> Result<Arg<'a>, AllocError> {
     words::json(alloc)?.requires_arg("output")
 }
 
-/// The lockfiles of a merge, with the checksums that Cargo reads, and crates.io as Cargo writes it.
+/// A lockfile of a merge.
+#[derive(Drop)]
+struct Side {
+    /// The lockfile, with the checksums that Cargo reads, and crates.io as Cargo writes it.
+    lockfile: Lockfile,
+
+    /// The comments at the top of its text that Cargo keeps.
+    comments: String,
+}
+
+/// The lockfiles of a merge.
 #[derive(Drop)]
 struct Three {
-    base: Lockfile,
-    ours: Lockfile,
-    theirs: Lockfile,
+    base: Side,
+    ours: Side,
+    theirs: Side,
+}
+
+impl Three {
+    /// The comments of the merge.
+    fn comments(&self) -> MergedComments<'_>
+        ensures { AreCommentsOf self.now result }
+    {
+        merge_comments(
+            self.base.comments.as_str(),
+            self.ours.comments.as_str(),
+            self.theirs.comments.as_str(),
+        )
+    }
+
+    /// The merge of the lockfiles, with these comments.
+    fn merge(
+        &self,
+        alloc: Global,
+        comments: MergedComments<'_>,
+    ) -> Result<LockfileMerge<'_>, MergeError<'_>>
+        ensures ok { IfOk result (MergesTo comments.text.now (triple_in self.now)) }
+        ensures err { IfErr result (IsMergeError (triple_in self.now)) }
+    {
+        merge_lockfiles(
+            alloc,
+            &self.base.lockfile,
+            &self.ours.lockfile,
+            &self.theirs.lockfile,
+            comments.text,
+        )
+    }
 }
 
 /// What is told of a merge.
@@ -108,8 +156,9 @@ pub(crate) fn run<R: Files + Input + AllocGlobal, W: Write>(
 {
     let telling = asked(rt.alloc(), options)?;
     let three = three_lockfiles(rt, options)?;
-    match merge_lockfiles(rt.alloc(), &three.base, &three.ours, &three.theirs) {
-        Ok(merge) => put_merge(rt, options, telling, merge, out),
+    let comments = three.comments();
+    match three.merge(rt.alloc(), comments) {
+        Ok(merge) => put_merge(rt, options, telling, comments, merge, out),
         Err(MergeError::Memory) => Err(Fault::Library(Error::Memory)),
         Err(error) => put_refusal(rt.alloc(), telling, &error, out),
     }
@@ -147,13 +196,27 @@ fn three_lockfiles<R: Files + Input + AllocGlobal>(
     })
 }
 
-/// The base of the merge.
-fn base<R: Files + Input + AllocGlobal>(rt: &R, options: &ArgMatches<'_>) -> Result<Lockfile, Fault>
-    ensures { IfOk result IsMeantForMerge }
+/// The base of the merge. One that is not there has no packages and no comments.
+fn base<R: Files + Input + AllocGlobal>(rt: &R, options: &ArgMatches<'_>) -> Result<Side, Fault>
+    ensures { IfOk result IsBase }
 {
-    let lockfile = base_lockfile(rt, options)?;
-    let spelt = with_cargo_spelling(rt.alloc(), lockfile)?;
-    Ok(spelt)
+    match compared_with_text(rt, options, "base") {
+        Ok(read) => side_of(rt.alloc(), read),
+        Err(Fault::File(_, Error::Io(ErrorKind::NotFound))) => no_base(rt.alloc()),
+        Err(fault) => Err(fault),
+    }
+}
+
+/// The base that is not there.
+fn no_base(alloc: Global) -> Result<Side, Fault>
+    ensures { IfOk result IsBase }
+{
+    let lockfile = lockfile_without_packages(alloc)?;
+    let lockfile = with_cargo_spelling(alloc, lockfile)?;
+    Ok(Side {
+        lockfile,
+        comments: String::new(alloc),
+    })
 }
 
 /// The side of the merge whose path the argument `name` has.
@@ -161,12 +224,22 @@ fn side<R: Files + Input + AllocGlobal>(
     rt: &R,
     options: &ArgMatches<'_>,
     name: &str,
-) -> Result<Lockfile, Fault>
-    ensures { IfOk result IsMeantForMerge }
+) -> Result<Side, Fault>
+    ensures { IfOk result IsSide }
 {
-    let lockfile = compared_lockfile(rt, options, name)?;
-    let spelt = with_cargo_spelling(rt.alloc(), lockfile)?;
-    Ok(spelt)
+    let read = compared_with_text(rt, options, name)?;
+    side_of(rt.alloc(), read)
+}
+
+/// The side of a lockfile with its text.
+fn side_of(alloc: Global, read: WithText) -> Result<Side, Fault>
+    requires { MeansWithCargoChecksums (string_bytes read.text) read.lockfile }
+    ensures { IfOk result IsSide }
+{
+    let WithText { text, lockfile } = read;
+    let comments = comments_of(alloc, text.as_str())?;
+    let lockfile = with_cargo_spelling(alloc, lockfile)?;
+    Ok(Side { lockfile, comments })
 }
 
 /// Whether two of the arguments are standard input.
@@ -175,22 +248,6 @@ fn are_two_standard(options: &ArgMatches<'_>) -> bool {
     let ours = is_standard(options, "ours");
     let theirs = is_standard(options, "theirs");
     (base && (ours || theirs)) || (ours && theirs)
-}
-
-/// The lockfile of the base. One that is not there has no packages.
-fn base_lockfile<R: Files + Input + AllocGlobal>(
-    rt: &R,
-    options: &ArgMatches<'_>,
-) -> Result<Lockfile, Fault>
-    ensures { IfOk result IsMeantWithCargoChecksums }
-{
-    match compared_lockfile(rt, options, "base") {
-        Ok(lockfile) => Ok(lockfile),
-        Err(Fault::File(_, Error::Io(ErrorKind::NotFound))) => {
-            lockfile_without_packages(rt.alloc())
-        }
-        Err(fault) => Err(fault),
-    }
 }
 
 /// The error for lockfiles that cannot be merged, or out of memory.
@@ -229,22 +286,44 @@ fn put_merge<R: Files + AllocGlobal, W: Write>(
     rt: &R,
     options: &ArgMatches<'_>,
     telling: Telling,
+    comments: MergedComments<'_>,
     merge: LockfileMerge<'_>,
     out: &mut W,
 ) -> Result<Ended, Fault>
     requires { IsTelling (found_of options.now) telling }
-    ensures printed { IfOk result (λ ended. PrintsMergeAs telling (found_of options.now) merge.entry
+    ensures printed { IfOk result (λ ended. PrintsMergeAs telling (found_of options.now) comments
+        merge.entry
         (W.contents out.old) (W.contents out.new)
         (status_in ended ≡ ExitCode.FAILURE) (status_in ended ≡ ExitCode.SUCCESS)) }
     ensures end { IfOk result IsEnd }
 {
     match merge {
         LockfileMerge::Merged(_, text, remarks) => {
-            put_merged(rt, options, telling, text.as_str(), &remarks, out)
+            let told = Remarked {
+                comments,
+                remarks: &remarks,
+            };
+            put_merged(rt, options, telling, text.as_str(), told, out)
         }
         LockfileMerge::InConflict(conflicts) => {
             put_conflicts(rt.alloc(), telling, &conflicts, out)
         }
+    }
+}
+
+/// What is reported of a merge.
+#[derive(Clone, Copy)]
+struct Remarked<'a> {
+    comments: MergedComments<'a>,
+    remarks: &'a Remarks<'a>,
+}
+
+impl Remarked<'_> {
+    /// All lines, each with its newline.
+    fn lines(self, alloc: Global) -> Result<String, AllocError> {
+        let mut lines = String::from_str(alloc, self.comments.line())?;
+        lines.push_str(self.remarks.lines(alloc)?.as_str())?;
+        Ok(lines)
     }
 }
 
@@ -254,23 +333,23 @@ fn put_merged<R: Files + AllocGlobal, W: Write>(
     options: &ArgMatches<'_>,
     telling: Telling,
     text: &str,
-    remarks: &Remarks<'_>,
+    told: Remarked<'_>,
     out: &mut W,
 ) -> Result<Ended, Fault>
     requires { IsTelling (found_of options.now) telling }
-    ensures printed { IfOk result (λ ended. PrintsMerged telling (found_of options.now) text.now
-        remarks.now (W.contents out.old) (W.contents out.new)
+    ensures printed { IfOk result (λ ended. PrintsMerged telling (found_of options.now)
+        told.comments text.now told.remarks.now (W.contents out.old) (W.contents out.new)
         × (status_in ended ≡ ExitCode.SUCCESS)) }
     ensures end { IfOk result IsEnd }
 {
     match telling {
         Telling::Lines => {
-            let lines = remarks.lines(rt.alloc())?;
+            let lines = told.lines(rt.alloc())?;
             put_own_out(rt, options, text, out)?;
             Ok(Ended::WithLines(ExitCode::SUCCESS, lines))
         }
         Telling::Document => {
-            let document = merged_json(rt.alloc(), remarks)?;
+            let document = merged_json(rt.alloc(), told.comments, told.remarks)?;
             put_in_file(rt, options, text, out)?;
             put_line(out, document.as_str())?;
             Ok(Ended::Silent(ExitCode::SUCCESS))

@@ -9,5 +9,5 @@ pub returns : goal.returns
 returns c =
     let items = ap (map item_json) c.deref.ensures.value
     ∙ sym (map-map conflict_json item_data c.in_ok-items.items.items) ∙ ap (map conflict_json) c.in_ok-items.ensures in
-    subst (λ (js : List Json). IfOk c.document_text.result (λ text. IsJsonText (merge_document (codes "conflicts") None js [] [] []) (string_bytes text)))
+    subst (λ (js : List Json). IfOk c.document_text.result (λ text. IsJsonText (merge_document (codes "conflicts") None js [] [] [] None) (string_bytes text)))
     items c.document_text.ensures

@@ -10,4 +10,5 @@ returns c = then c.in_ok-begin_object.ensures
     (then c.in_ok-write_array.ensures (then c.in_ok-key-2.ensures
     (then c.in_ok-write_array-2.ensures (then c.in_ok-key-3.ensures
     (then c.in_ok-write_array-3.ensures (then c.in_ok-key-4.ensures
-    (then c.in_ok-write_array-4.ensures c.end_object.ensures)))))))))))
+    (then c.in_ok-write_array-4.ensures (then c.in_ok-write_text_or_null-2.ensures
+    c.end_object.ensures))))))))))))
