@@ -7,13 +7,14 @@ ghost use Rattle.cargo_lock_c.specs.Merges.{IsTextAbout, IsTextAboutError, IsTex
 ghost use Rattle.cargo_lock_merge.specs.Comments.{comments_line};
 ghost use Rattle.cargo_lock_merge.specs.Lines.{remark_lines};
 ghost use Rattle.cargo_lock_c.specs.Merges.{LacksMerge, asked_text, refused_role};
-ghost use Rattle.cargo_lock_c.specs.Merges.{status_with, triple_of_texts};
+ghost use Rattle.cargo_lock_c.specs.Merges.{status_with};
 
 use crate::handing::hand_out;
 use crate::refusal::{DONE, Refusal};
-use crate::three::{Three, read_three};
+use crate::three::read_three;
+use cargo_lock_merge::MergeInputs;
 use cargo_lock_merge::comments::MergedComments;
-use cargo_lock_merge::lockfiles::{LockfileMerge, MergeError, merge_lockfiles};
+use cargo_lock_merge::lockfiles::{LockfileMerge, MergeError};
 use cargo_lock_merge::notice::Remarks;
 use cargo_lock_merge_core::triple::Role;
 use std::alloc::Global;
@@ -134,30 +135,23 @@ fn read_and_merge(
         (string_bytes answer.text)) }
     ensures err { IfErr result (LacksMerge base.now ours.now theirs.now) }
 {
-    let three = read_three(alloc, base, ours, theirs)?;
-    let answer = answer_of(alloc, &three, three.comments(), part)?;
+    let inputs = read_three(alloc, base, ours, theirs)?;
+    let answer = answer_of(alloc, &inputs, inputs.comments(), part)?;
     Ok(answer)
 }
 
 /// How the merge of three lockfiles ends, and the text about it.
 fn answer_of(
     alloc: Global,
-    three: &Three,
+    inputs: &MergeInputs,
     comments: MergedComments<'_>,
     part: Part,
 ) -> Result<Answer, Refusal>
-    ensures ok { IfOk result (λ answer. IsTextOfMerge part comments (triple_of_texts three.now)
-        answer.ending (string_bytes answer.text)) }
+    ensures ok { IfOk result (λ answer. IsTextOfMerge part comments inputs.now answer.ending
+        (string_bytes answer.text)) }
     ensures err { IfErr result (λ refusal. refusal ≡ NoMemory) }
 {
-    let Three { base, ours, theirs } = three;
-    match merge_lockfiles(
-        alloc,
-        &base.lockfile,
-        &ours.lockfile,
-        &theirs.lockfile,
-        comments.text,
-    ) {
+    match inputs.merge(alloc, comments) {
         Ok(merge) => merge_answer(alloc, merge, comments, part),
         Err(error) => error_answer(alloc, error),
     }

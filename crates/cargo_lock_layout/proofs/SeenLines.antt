@@ -90,6 +90,6 @@ pub cut-empty : (lines : List (Bor (List ℕ))) (end : ℕ) → end ≡ length l
     → map (λ (b : Bor (List ℕ)). b.now) (take end lines) ≡ without_empty_end (map (λ (b : Bor (List ℕ)). b.now) lines)
 cut-empty lines end is empty =
     let seen = map (λ (b : Bor (List ℕ)). b.now) lines in
-    let place : length seen - 1 ≡ end = ap (λ n. n - 1) (length-map (λ (b : Bor (List ℕ)). b.now) lines) ∙ sym is in
+    let place : length seen - 1 ≡ end = rw length-map (sym is) in
     sym (take-map (λ (b : Bor (List ℕ)). b.now) end lines)
     ∙ sym (ap (λ k. cond (is_empty (line_or_empty seen k)) (take k seen) seen) place ∙ ap (λ b. cond b (take end seen) seen) empty)

@@ -90,7 +90,8 @@ fn add_unless<'a>(all: &mut Vec<&'a str>, line: &'a str, own: &str) -> Result<()
     if line == own {
         return Ok(());
     }
-    all.push(line)
+    all.push(line)?;
+    Ok(())
 }
 
 /// Whether a line begins with `#`.

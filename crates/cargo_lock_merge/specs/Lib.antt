@@ -12,6 +12,7 @@ pub mod OwnMetadata
 pub mod Referring
 pub mod Spelling
 pub mod MergedLockfiles
+pub mod Inputs
 pub mod ByPlaces
 pub mod Once
 pub mod Headline

@@ -7,6 +7,7 @@ pub mod comments;
 pub mod conflict;
 pub mod document;
 mod format;
+pub mod inputs;
 pub mod laws;
 mod lines;
 pub mod lockfiles;
@@ -23,6 +24,7 @@ mod words;
 
 pub use crate::comments::merge_comments;
 pub use crate::document::{conflicts_json, merged_json, refused_json};
+pub use crate::inputs::{MergeInput, MergeInputs};
 pub use crate::lockfiles::merge_lockfiles;
 pub use crate::outcome::merge;
 pub use crate::spelling::with_cargo_spelling;

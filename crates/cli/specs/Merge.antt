@@ -4,24 +4,21 @@ use Rattle.std.specs.Io.KnownBytes.{Keeps}
 use Rattle.clap.specs.Matches.{first_value}
 use Rattle.clap.specs.declared.parser.matches.Found.{Found}
 use Rattle.cargo_lock_encoding.specs.Lockfiles.{LockfileData}
-use Rattle.cargo_lock_layout.specs.Lines.{comments_of}
-use Rattle.cargo_lock_merge.specs.Comments.{AreMergedComments}
 use Rattle.cargo_lock_merge.specs.Document.{conflicts_json, merged_json, refused_json}
-use Rattle.cargo_lock_merge.specs.MergedLockfiles.{IsMergeError, LockfileTriple, MergesTo}
-use Rattle.cargo_lock_merge.specs.MergedLockfiles.{triple_of}
+use Rattle.cargo_lock_merge.specs.Inputs.{AreInputComments, IsInputOf, lockfiles_in}
+use Rattle.cargo_lock_merge.specs.MergedLockfiles.{IsMergeError, MergesTo}
+use Rattle.cargo_lock_merge.specs.declared.inputs.MergeInput.{MergeInput}
+use Rattle.cargo_lock_merge.specs.declared.inputs.MergeInputs.{MergeInputs}
 use Rattle.cargo_lock_merge.specs.declared.lockfiles.LockfileConflicts.{LockfileConflicts}
 use Rattle.cargo_lock_merge.specs.declared.comments.MergedComments.{MergedComments}
 use Rattle.cargo_lock_merge.specs.declared.lockfiles.LockfileMerge.{LockfileMerge}
 use Rattle.cargo_lock_merge.specs.declared.lockfiles.LockfileMerge.TheVariants.{InConflict, Merged}
 use Rattle.cargo_lock_merge.specs.declared.lockfiles.MergeError.{MergeError}
 use Rattle.cargo_lock_merge.specs.declared.notice.Remarks.{Remarks}
-use Rattle.cargo_lock_merge.specs.Spelling.{with_cargo_spelling}
 use Rattle.cli_input.specs.Json.{IsAsked, IsUnasked, PrintsLine}
 use Rattle.cli_input.specs.Load.{IsMeantWithCargoChecksums, MeansWithCargoChecksums}
-use Rattle.cli.specs.declared.merge.Side.{Side}
 use Rattle.cli.specs.declared.merge.Telling.{Telling}
 use Rattle.cli.specs.declared.merge.Telling.TheVariants.{Document, Lines}
-use Rattle.cli.specs.declared.merge.Three.{Three}
 use Rattle.cli_support.specs.Destination.{IsPrinted, TakesOutput}
 use Rattle.printing.specs.Json.{IsJsonText}
 
@@ -60,49 +57,36 @@ PrintsMergeAs telling found comments (Merged lockfile text remarks) old new fail
 PrintsMergeAs telling found comments (InConflict conflicts) old new failure success =
     PrintsConflicts telling conflicts old new × failure
 
--- the lockfile is one that the text means, with the checksums that Cargo reads, and with crates.io as
--- Cargo writes it, and these are the comments at the top of the text that Cargo keeps
-abbrev pub IsSideOf : List ℕ → Side → Type 0
-IsSideOf text side = (l : LockfileData) × MeansWithCargoChecksums text l
-    × (side.lockfile ≡ with_cargo_spelling l) × (string_bytes side.comments ≡ comments_of text)
-
--- the same of some text
-abbrev pub IsSide : Side → Type 0
-IsSide side = (text : List ℕ) × IsSideOf text side
+-- the input is that of a text and of the lockfile that it means, with the checksums that Cargo reads
+abbrev pub IsSide : MergeInput → Type 0
+IsSide input = (text : List ℕ) × (l : LockfileData) × MeansWithCargoChecksums text l
+    × IsInputOf l text input
 
 -- the same, or the base is not there: it is a lockfile that some text means, without comments
-abbrev pub IsBase : Side → Type 0
-IsBase side = IsSide side ⊎ ((l : LockfileData) × IsMeantWithCargoChecksums l
-    × (side.lockfile ≡ with_cargo_spelling l) × (string_bytes side.comments ≡ []))
-
--- these are the comments of the merge of the three
-abbrev pub AreCommentsOf : Three → MergedComments → Type 0
-AreCommentsOf three comments = AreMergedComments (string_bytes three.base.comments)
-    (string_bytes three.ours.comments) (string_bytes three.theirs.comments) comments
-
--- the three lockfiles
-abbrev pub triple_in : Three → LockfileTriple
-triple_in three = triple_of three.base.lockfile three.ours.lockfile three.theirs.lockfile
+abbrev pub IsBase : MergeInput → Type 0
+IsBase input = IsSide input
+    ⊎ ((l : LockfileData) × IsMeantWithCargoChecksums l × IsInputOf l [] input)
 
 -- their merge with these comments is printed; or they have none, and the document says why, and the
 -- status is that of a fault
-abbrev pub PrintsMergeOf : Telling → Found → Three → MergedComments → Option (List ℕ)
+abbrev pub PrintsMergeOf : Telling → Found → MergeInputs → MergedComments → Option (List ℕ)
     → Option (List ℕ) → Type 0 → Type 0 → Type 0 → Type 0
-PrintsMergeOf telling found three comments old new failure success fault =
-    ((m : LockfileMerge) × MergesTo comments.text.now (triple_in three) m
+PrintsMergeOf telling found inputs comments old new failure success fault =
+    ((m : LockfileMerge) × MergesTo comments.text.now (lockfiles_in inputs) m
     × PrintsMergeAs telling found comments m old new failure success)
-    ⊎ ((e : MergeError) × IsMergeError (triple_in three) e × PrintsRefusal telling e old new × fault)
+    ⊎ ((e : MergeError) × IsMergeError (lockfiles_in inputs) e × PrintsRefusal telling e old new
+    × fault)
 
 -- the same of three lockfiles that some texts mean, as the arguments ask for it
 abbrev pub PrintsMerge : Found → Option (List ℕ) → Option (List ℕ) → Type 0 → Type 0 → Type 0
     → Type 0
-PrintsMerge found old new failure success fault = (three : Three) × AreCompared three
-    × (comments : MergedComments) × AreCommentsOf three comments
+PrintsMerge found old new failure success fault = (inputs : MergeInputs) × AreInputs inputs
+    × (comments : MergedComments) × AreInputComments inputs comments
     × (telling : Telling) × IsTelling found telling
-    × PrintsMergeOf telling found three comments old new failure success fault
+    × PrintsMergeOf telling found inputs comments old new failure success fault
 
--- each of the three is a lockfile that some text means, as it is merged
-pub record AreCompared (three : Three) : Type 0 where
-  pub base : IsBase three.base
-  pub ours : IsSide three.ours
-  pub theirs : IsSide three.theirs
+-- the three are those of texts
+pub record AreInputs (inputs : MergeInputs) : Type 0 where
+  pub base : IsBase inputs.base
+  pub ours : IsSide inputs.ours
+  pub theirs : IsSide inputs.theirs

@@ -1,25 +1,22 @@
 //! The command `merge`: two lockfiles, merged over their common ancestor.
-ghost use Rattle.std.specs.Prelude.{◌≡◌, ◌∷◌, ◌++◌, [], IfErr, IfOk, OnOk, codes};
+ghost use Rattle.std.specs.Prelude.{◌≡◌, ◌∷◌, ◌++◌, [], IfOk, OnOk, codes};
 ghost use Rattle.std.specs.Prelude.{string_bytes};
 ghost use Rattle.std.specs.Io.KnownBytes.{Appends, Keeps};
 ghost use Rattle.std.specs.Process.{exit_status};
 ghost use Rattle.clap.specs.Matches.{first_value, found_of};
 ghost use Rattle.cargo_lock_parts.specs.Ascii.{newline};
 ghost use Rattle.cli_input.specs.Load.{MeansWithCargoChecksums};
-ghost use Rattle.cargo_lock_merge.specs.MergedLockfiles.{IsMergeError, MergesTo};
 ghost use Rattle.cli_support.specs.Destination.{IsPrinted};
 ghost use Rattle.cli.specs.Ending.{IsEnd, status_in};
-ghost use Rattle.cli.specs.Merge.{AreCommentsOf, AreCompared, IsBase, IsSide, IsTelling};
-ghost use Rattle.cli.specs.Merge.{PrintsConflicts, PrintsMerge, PrintsMergeAs, PrintsMerged};
-ghost use Rattle.cli.specs.Merge.{PrintsRefusal, triple_in};
+ghost use Rattle.cli.specs.Merge.{AreInputs, IsBase, IsSide, IsTelling, PrintsConflicts};
+ghost use Rattle.cli.specs.Merge.{PrintsMerge, PrintsMergeAs, PrintsMerged, PrintsRefusal};
 
 use crate::ending::Ended;
-use cargo_lock::{Error, Lockfile};
-use cargo_lock_layout::comments_of;
-use cargo_lock_merge::comments::{MergedComments, merge_comments};
-use cargo_lock_merge::lockfiles::{LockfileConflicts, LockfileMerge, MergeError, merge_lockfiles};
+use cargo_lock::Error;
+use cargo_lock_merge::comments::MergedComments;
+use cargo_lock_merge::lockfiles::{LockfileConflicts, LockfileMerge, MergeError};
 use cargo_lock_merge::notice::Remarks;
-use cargo_lock_merge::{conflicts_json, merged_json, refused_json, with_cargo_spelling};
+use cargo_lock_merge::{MergeInput, MergeInputs, conflicts_json, merged_json, refused_json};
 use clap::error::ErrorKind as WordsKind;
 use clap::{Arg, ArgMatches, Command};
 use cli_input::load::{WithText, compared_with_text, lockfile_without_packages};
@@ -77,55 +74,6 @@ fn json<'a>(alloc: Global) -> Result<Arg<'a>, AllocError> {
     words::json(alloc)?.requires_arg("output")
 }
 
-/// A lockfile of a merge.
-#[derive(Drop)]
-struct Side {
-    /// The lockfile, with the checksums that Cargo reads, and crates.io as Cargo writes it.
-    lockfile: Lockfile,
-
-    /// The comments at the top of its text that Cargo keeps.
-    comments: String,
-}
-
-/// The lockfiles of a merge.
-#[derive(Drop)]
-struct Three {
-    base: Side,
-    ours: Side,
-    theirs: Side,
-}
-
-impl Three {
-    /// The comments of the merge.
-    fn comments(&self) -> MergedComments<'_>
-        ensures { AreCommentsOf self.now result }
-    {
-        merge_comments(
-            self.base.comments.as_str(),
-            self.ours.comments.as_str(),
-            self.theirs.comments.as_str(),
-        )
-    }
-
-    /// The merge of the lockfiles, with these comments.
-    fn merge(
-        &self,
-        alloc: Global,
-        comments: MergedComments<'_>,
-    ) -> Result<LockfileMerge<'_>, MergeError<'_>>
-        ensures ok { IfOk result (MergesTo comments.text.now (triple_in self.now)) }
-        ensures err { IfErr result (IsMergeError (triple_in self.now)) }
-    {
-        merge_lockfiles(
-            alloc,
-            &self.base.lockfile,
-            &self.ours.lockfile,
-            &self.theirs.lockfile,
-            comments.text,
-        )
-    }
-}
-
 /// What is told of a merge.
 #[derive(Clone, Copy)]
 enum Telling {
@@ -155,9 +103,9 @@ pub(crate) fn run<R: Files + Input + AllocGlobal, W: Write>(
     ensures end { IfOk result IsEnd }
 {
     let telling = asked(rt.alloc(), options)?;
-    let three = three_lockfiles(rt, options)?;
-    let comments = three.comments();
-    match three.merge(rt.alloc(), comments) {
+    let inputs = inputs(rt, options)?;
+    let comments = inputs.comments();
+    match inputs.merge(rt.alloc(), comments) {
         Ok(merge) => put_merge(rt, options, telling, comments, merge, out),
         Err(MergeError::Memory) => Err(Fault::Library(Error::Memory)),
         Err(error) => put_refusal(rt.alloc(), telling, &error, out),
@@ -180,16 +128,16 @@ fn asked(alloc: Global, options: &ArgMatches<'_>) -> Result<Telling, Fault>
 
 /// The three lockfiles that the arguments name. Fails if one is not read, and if two of them are
 /// standard input.
-fn three_lockfiles<R: Files + Input + AllocGlobal>(
+fn inputs<R: Files + Input + AllocGlobal>(
     rt: &R,
     options: &ArgMatches<'_>,
-) -> Result<Three, Fault>
-    ensures { IfOk result AreCompared }
+) -> Result<MergeInputs, Fault>
+    ensures { IfOk result AreInputs }
 {
     if are_two_standard(options) {
         return Err(Fault::OneInput);
     }
-    Ok(Three {
+    Ok(MergeInputs {
         base: base(rt, options)?,
         ours: side(rt, options, "ours")?,
         theirs: side(rt, options, "theirs")?,
@@ -197,26 +145,26 @@ fn three_lockfiles<R: Files + Input + AllocGlobal>(
 }
 
 /// The base of the merge. One that is not there has no packages and no comments.
-fn base<R: Files + Input + AllocGlobal>(rt: &R, options: &ArgMatches<'_>) -> Result<Side, Fault>
+fn base<R: Files + Input + AllocGlobal>(
+    rt: &R,
+    options: &ArgMatches<'_>,
+) -> Result<MergeInput, Fault>
     ensures { IfOk result IsBase }
 {
     match compared_with_text(rt, options, "base") {
-        Ok(read) => side_of(rt.alloc(), read),
+        Ok(read) => input_of(rt.alloc(), read),
         Err(Fault::File(_, Error::Io(ErrorKind::NotFound))) => no_base(rt.alloc()),
         Err(fault) => Err(fault),
     }
 }
 
 /// The base that is not there.
-fn no_base(alloc: Global) -> Result<Side, Fault>
+fn no_base(alloc: Global) -> Result<MergeInput, Fault>
     ensures { IfOk result IsBase }
 {
     let lockfile = lockfile_without_packages(alloc)?;
-    let lockfile = with_cargo_spelling(alloc, lockfile)?;
-    Ok(Side {
-        lockfile,
-        comments: String::new(alloc),
-    })
+    let input = MergeInput::new(alloc, lockfile, "")?;
+    Ok(input)
 }
 
 /// The side of the merge whose path the argument `name` has.
@@ -224,22 +172,21 @@ fn side<R: Files + Input + AllocGlobal>(
     rt: &R,
     options: &ArgMatches<'_>,
     name: &str,
-) -> Result<Side, Fault>
+) -> Result<MergeInput, Fault>
     ensures { IfOk result IsSide }
 {
     let read = compared_with_text(rt, options, name)?;
-    side_of(rt.alloc(), read)
+    input_of(rt.alloc(), read)
 }
 
-/// The side of a lockfile with its text.
-fn side_of(alloc: Global, read: WithText) -> Result<Side, Fault>
+/// The input of a lockfile with its text.
+fn input_of(alloc: Global, read: WithText) -> Result<MergeInput, Fault>
     requires { MeansWithCargoChecksums (string_bytes read.text) read.lockfile }
     ensures { IfOk result IsSide }
 {
     let WithText { text, lockfile } = read;
-    let comments = comments_of(alloc, text.as_str())?;
-    let lockfile = with_cargo_spelling(alloc, lockfile)?;
-    Ok(Side { lockfile, comments })
+    let input = MergeInput::new(alloc, lockfile, text.as_str())?;
+    Ok(input)
 }
 
 /// Whether two of the arguments are standard input.

@@ -11,12 +11,12 @@ returns-in_err-first-clause-err c =
 pub returns-in_err-second-clause-err : goal.returns-in_err-second-clause-err
 returns-in_err-second-clause-err c =
     refusal-passed (LacksMerge c.args.base.now c.args.ours.now c.args.theirs.now) c.from_residual-in_err-second.result c.in_err-second.field-0.0 c.from_residual-in_err-second.ensures.1
-    (c.in_err-second.ensures.err c.args.base.now c.args.theirs.now (is-read c.args.base.now c.in_ok-first.first.lockfile c.in_ok-first.ensures.ok.0))
+    (c.in_err-second.ensures.err c.args.base.now c.args.theirs.now (is-read c.args.base.now c.in_ok-first.first c.in_ok-first.ensures.ok))
 
 pub returns-in_err-third-clause-err : goal.returns-in_err-third-clause-err
 returns-in_err-third-clause-err c =
     refusal-passed (LacksMerge c.args.base.now c.args.ours.now c.args.theirs.now) c.from_residual-in_err-third.result c.in_err-third.field-0.0 c.from_residual-in_err-third.ensures.1
-    (c.in_err-third.ensures.err c.args.base.now c.args.ours.now (is-read c.args.base.now c.in_ok-first.first.lockfile c.in_ok-first.ensures.ok.0) (is-read c.args.ours.now c.in_ok-second.second.lockfile c.in_ok-second.ensures.ok.0))
+    (c.in_err-third.ensures.err c.args.base.now c.args.ours.now (is-read c.args.base.now c.in_ok-first.first c.in_ok-first.ensures.ok) (is-read c.args.ours.now c.in_ok-second.second c.in_ok-second.ensures.ok))
 
 pub returns-clause-ok : goal.returns-clause-ok
 returns-clause-ok c = record { base = c.in_ok-first.ensures.ok; ours = c.in_ok-second.ensures.ok; theirs = c.in_ok-third.ensures.ok }

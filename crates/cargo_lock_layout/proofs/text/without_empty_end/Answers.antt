@@ -1,4 +1,4 @@
-use Rattle.std.proofs.Common.{◌≡◌, ◌∙◌, ◌-◌, ℕ, List, ap, length, map, rules, sym, true}
+use Rattle.std.proofs.Common.{◌≡◌, ◌∙◌, ◌-◌, ℕ, List, ap, length, map, rules, true}
 use Rattle.std.specs.Borrow.{Bor}
 use Rattle.cargo_lock_layout.specs.Lines.{is_empty, line_or_empty}
 use Rattle.cargo_lock_layout.proofs.SeenLines.{cut-empty}

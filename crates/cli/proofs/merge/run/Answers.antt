@@ -5,8 +5,8 @@ use Rattle.cli.proofs.merge.run.Goals as goal
 pub returns-in-Ok-clause-printed : goal.returns-in-Ok-clause-printed
 returns-in-Ok-clause-printed g c =
     if_ok_weaken c.put_merge.result _ _ (λ ended printed. (
-      c.in_ok-three.three,
-      c.in_ok-three.ensures,
+      c.in_ok-inputs.inputs,
+      c.in_ok-inputs.ensures,
       c.comments.result,
       c.comments.ensures,
       c.in_ok-telling.telling,
@@ -17,8 +17,8 @@ returns-in-Ok-clause-printed g c =
 pub returns-in-Err-clause-printed : goal.returns-in-Err-clause-printed
 returns-in-Err-clause-printed g c =
     if_ok_weaken c.put_refusal.result _ _ (λ ended printed. (
-      c.in_ok-three.three,
-      c.in_ok-three.ensures,
+      c.in_ok-inputs.inputs,
+      c.in_ok-inputs.ensures,
       c.comments.result,
       c.comments.ensures,
       c.in_ok-telling.telling,
