@@ -176,7 +176,7 @@ def runs_of(top):
     return [*found, ([], not last)]
 
 
-def prove_in_parts(top, log):
+def prove_in_parts(top, log, started=lambda child: None):
     """Proves a repository as `prove` does, by several runs where the kit keeps what one proved for
     the next. The crates beside which most processors have nothing to do, at the beginning and at
     the end, get these too."""
@@ -185,7 +185,7 @@ def prove_in_parts(top, log):
     status = 0
     while left and not status:
         names, has_jobs = left.pop(0)
-        status = prover.run(names, has_jobs)
+        status = prover.run(names, has_jobs, started)
         if names and not prover.progress.proved:
             # (the first crates are kept, and so are most)
             left = [([], True)]
