@@ -147,7 +147,7 @@ fn answer_of(
     comments: MergedComments<'_>,
     part: Part,
 ) -> Result<Answer, Refusal>
-    ensures ok { IfOk result (λ answer. IsTextOfMerge part comments inputs.now answer.ending
+    ensures ok { IfOk result (λ answer. IsTextOfMerge part comments.entry inputs.now answer.ending
         (string_bytes answer.text)) }
     ensures err { IfErr result (λ refusal. refusal ≡ NoMemory) }
 {
@@ -164,7 +164,7 @@ fn merge_answer(
     comments: MergedComments<'_>,
     part: Part,
 ) -> Result<Answer, Refusal>
-    ensures ok { IfOk result (λ answer. IsTextAbout part comments merge.entry answer.ending
+    ensures ok { IfOk result (λ answer. IsTextAbout part comments.entry merge.entry answer.ending
         (string_bytes answer.text)) }
     ensures err { IfErr result (λ refusal. refusal ≡ NoMemory) }
 {
@@ -189,7 +189,7 @@ fn part_text(
     remarks: &Remarks<'_>,
 ) -> Result<String, Refusal>
     ensures ok { IfOk result (λ asked. string_bytes asked
-        ≡ asked_text part comments (string_bytes text) remarks.now) }
+        ≡ asked_text part comments.entry (string_bytes text) remarks.now) }
     ensures err { IfErr result (λ refusal. refusal ≡ NoMemory) }
 {
     match part {
@@ -205,7 +205,7 @@ fn moved_text(
     remarks: &Remarks<'_>,
 ) -> Result<String, Refusal>
     ensures ok { IfOk result (λ lines. string_bytes lines
-        ≡ comments_line comments ++ remark_lines remarks.now) }
+        ≡ comments_line comments.entry ++ remark_lines remarks.now) }
     ensures err { IfErr result (λ refusal. refusal ≡ NoMemory) }
 {
     let mut lines = String::from_str(alloc, comments.line())?;

@@ -46,7 +46,7 @@ impl<'a> MergedComments<'a> {
     /// let word = comments.word();
     /// ```
     pub fn word(self) -> &'static str
-        ensures { result.now ≡ comments_word self }
+        ensures { result.now ≡ comments_word self.entry }
     {
         if self.are_disputed { "ours" } else { "agreed" }
     }
@@ -57,7 +57,7 @@ impl<'a> MergedComments<'a> {
     /// let line = comments.line();
     /// ```
     pub fn line(self) -> &'static str
-        ensures { result.now ≡ comments_line self }
+        ensures { result.now ≡ comments_line self.entry }
     {
         if self.are_disputed {
             "comments: both sides changed those at the top; ours are taken\n"
@@ -68,7 +68,7 @@ impl<'a> MergedComments<'a> {
 
     // Comments that are agreed on.
     fn agreed(text: &'a str) -> MergedComments<'a>
-        ensures { result ≡ record { text = text; are_disputed = false } }
+        ensures { result ≡ record { text = text.entry; are_disputed = false } }
     {
         MergedComments {
             text,

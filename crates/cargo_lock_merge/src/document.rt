@@ -47,7 +47,7 @@ pub fn merged_json(
     remarks: &Remarks<'_>,
 ) -> Result<String, AllocError>
     ensures { IfOk result
-        (λ text. IsJsonText (spec.merged_json comments remarks.now) (string_bytes text)) }
+        (λ text. IsJsonText (spec.merged_json comments.entry remarks.now) (string_bytes text)) }
 {
     let told = Told::of(alloc, &remarks.notices)?;
     document_text(

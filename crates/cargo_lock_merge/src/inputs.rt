@@ -87,7 +87,7 @@ impl MergeInputs {
         alloc: Global,
         comments: MergedComments<'_>,
     ) -> std::result::Result<LockfileMerge<'_>, MergeError<'_>>
-        ensures ok { IfOk result (MergesTo comments.text.now (lockfiles_in self.now)) }
+        ensures ok { IfOk result (MergesTo comments.entry.text.now (lockfiles_in self.now)) }
         ensures err { IfErr result (IsMergeError (lockfiles_in self.now)) }
     {
         merge_lockfiles(

@@ -238,7 +238,7 @@ fn put_merge<R: Files + AllocGlobal, W: Write>(
     out: &mut W,
 ) -> Result<Ended, Fault>
     requires { IsTelling (found_of options.now) telling }
-    ensures printed { IfOk result (λ ended. PrintsMergeAs telling (found_of options.now) comments
+    ensures printed { IfOk result (λ ended. PrintsMergeAs telling (found_of options.now) comments.entry
         merge.entry
         (W.contents out.old) (W.contents out.new)
         (status_in ended ≡ ExitCode.FAILURE) (status_in ended ≡ ExitCode.SUCCESS)) }
@@ -285,7 +285,7 @@ fn put_merged<R: Files + AllocGlobal, W: Write>(
 ) -> Result<Ended, Fault>
     requires { IsTelling (found_of options.now) telling }
     ensures printed { IfOk result (λ ended. PrintsMerged telling (found_of options.now)
-        told.comments text.now told.remarks.now (W.contents out.old) (W.contents out.new)
+        told.entry.comments text.now told.entry.remarks.now (W.contents out.old) (W.contents out.new)
         × (status_in ended ≡ ExitCode.SUCCESS)) }
     ensures end { IfOk result IsEnd }
 {

@@ -11,9 +11,9 @@ returns-in_err-answer-clause-err c =
 
 pub returns-clause-ok : goal.returns-clause-ok
 returns-clause-ok c = (
-    c.in_ok-inputs.inputs,
-    c.in_ok-inputs.ensures.ok,
-    c.comments.result,
-    c.comments.ensures,
-    c.in_ok-answer.ensures.ok,
-  )
+  c.in_ok-inputs.inputs,
+  c.in_ok-inputs.ensures.ok,
+  c.comments.result,
+  c.comments.ensures,
+  c.in_ok-answer.ensures.ok,
+)
