@@ -67,6 +67,12 @@ abbrev pub IsBase : MergeInput → Type 0
 IsBase input = IsSide input
     ⊎ ((l : LockfileData) × IsMeantWithCargoChecksums l × IsInputOf l [] input)
 
+-- the three are those of texts
+pub record AreInputs (inputs : MergeInputs) : Type 0 where
+  pub base : IsBase inputs.base
+  pub ours : IsSide inputs.ours
+  pub theirs : IsSide inputs.theirs
+
 -- their merge with these comments is printed; or they have none, and the document says why, and the
 -- status is that of a fault
 abbrev pub PrintsMergeOf : Telling → Found → MergeInputs → MergedComments → Option (List ℕ)
@@ -84,9 +90,3 @@ PrintsMerge found old new failure success fault = (inputs : MergeInputs) × AreI
     × (comments : MergedComments) × AreInputComments inputs comments
     × (telling : Telling) × IsTelling found telling
     × PrintsMergeOf telling found inputs comments old new failure success fault
-
--- the three are those of texts
-pub record AreInputs (inputs : MergeInputs) : Type 0 where
-  pub base : IsBase inputs.base
-  pub ours : IsSide inputs.ours
-  pub theirs : IsSide inputs.theirs
