@@ -11,5 +11,5 @@ returns-in-Merged-clause-printed g c =
     let found = found_of c.args.options.now in
     let old = g.W.Write.contents c.args.out.now in
     let new = g.W.Write.contents c.put_merged.new.out in
-    let printed = subst (λ (text : List ℕ). IfOk c.put_merged.result (λ ended. PrintsMerged c.args.telling found text c.in-Merged.remarks old new × (status_in ended ≡ SUCCESS))) c.as_str.ensures.value c.put_merged.ensures.printed in
-    subst (λ (m : LockfileMerge). IfOk c.put_merged.result (λ ended. PrintsMergeAs c.args.telling found m old new _ (status_in ended ≡ SUCCESS))) (sym c.in-Merged.is) printed
+    let printed = subst (λ (text : List ℕ). IfOk c.put_merged.result (λ ended. PrintsMerged c.args.telling found c.args.comments text c.in-Merged.remarks old new × (status_in ended ≡ SUCCESS))) c.as_str.ensures.value c.put_merged.ensures.printed in
+    subst (λ (m : LockfileMerge). IfOk c.put_merged.result (λ ended. PrintsMergeAs c.args.telling found c.args.comments m old new _ (status_in ended ≡ SUCCESS))) (sym c.in-Merged.is) printed

@@ -7,20 +7,20 @@ returns-in-Ok-clause-printed g c =
     if_ok_weaken c.put_merge.result _ _ (λ ended printed. (
       c.in_ok-inputs.inputs,
       c.in_ok-inputs.ensures,
-      c.comments.result,
-      c.comments.ensures,
+      c.comments-comments.result,
+      c.comments-comments.ensures,
       c.in_ok-telling.telling,
       c.in_ok-telling.ensures,
       inl (c.in-Ok.merge, rw c.in-Ok.is at c.merge.ensures.ok, printed),
     )) c.put_merge.ensures.printed
 
-pub returns-in-Err-clause-printed : goal.returns-in-Err-clause-printed
-returns-in-Err-clause-printed g c =
+pub returns-clause-printed : goal.returns-clause-printed
+returns-clause-printed g c =
     if_ok_weaken c.put_refusal.result _ _ (λ ended printed. (
       c.in_ok-inputs.inputs,
       c.in_ok-inputs.ensures,
-      c.comments.result,
-      c.comments.ensures,
+      c.comments-comments.result,
+      c.comments-comments.ensures,
       c.in_ok-telling.telling,
       c.in_ok-telling.ensures,
       inr (c.in-Err.error, rw c.in-Err.is at c.merge.ensures.err, printed),
