@@ -23,5 +23,5 @@ returns-clause-printed g c =
       c.comments-comments.ensures,
       c.in_ok-telling.telling,
       c.in_ok-telling.ensures,
-      inr (c.in-Err.error, rw c.in-Err.is at c.merge.ensures.err, printed),
+      inr (c.in-Err.error, rw c.in-Err.is at c.merge.ensures.err, printed.0, printed.1),
     )) c.put_refusal.ensures.printed
