@@ -113,7 +113,7 @@ _cargo_lock() {
         -o | --output) _cargo_lock_files ;;
         *)
             if [[ $current == -* ]]; then
-                _cargo_lock_offer '--any-size -o --output -h --help'
+                _cargo_lock_offer '--any-size --json -o --output -h --help'
             else
                 _cargo_lock_files
             fi

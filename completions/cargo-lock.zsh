@@ -130,6 +130,7 @@ _cargo-lock() {
     merge)
         _arguments -s \
             '--any-size[Reads a lockfile of 256 MiB or more too]' \
+            '--json[Prints one line of JSON]' \
             '(-o --output)'{-o,--output}'[The file that is written, - for standard output]:PATH:_files' \
             '(- *)'{-h,--help}'[Print help]' \
             '1:BASE:_files' \

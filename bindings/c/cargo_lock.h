@@ -180,7 +180,8 @@ uint32_t cargo_lock_json(const uint8_t *text, size_t text_len, uint8_t *out, siz
                          size_t *length);
 
 /* The text of the merge of two lockfiles over their common ancestor, by packages, as `cargo-lock
- * merge` prints it. An empty base is a lockfile without packages. At CONFLICTS there is no merge, and
+ * merge` prints it: as Cargo writes it, with the comments at the top that Cargo keeps. An empty base is
+ * a lockfile without packages. At CONFLICTS there is no merge, and
  * `out` has a line for each conflict with a newline at the end; at BASE_REFUSED, OURS_REFUSED or
  * THEIRS_REFUSED it has the line that says why that lockfile cannot be merged. The texts are read in
  * their order: NO_LOCKFILE and NO_TEXT are said of the base, NO_NEW_LOCKFILE and NO_NEW_TEXT of ours,
@@ -190,9 +191,9 @@ uint32_t cargo_lock_merge(const uint8_t *base, size_t base_len, const uint8_t *o
                           size_t ours_len, const uint8_t *theirs, size_t theirs_len, uint8_t *out,
                           size_t out_len, size_t *length);
 
-/* What this merge reports: the versions of members of the workspace that it chose, the checksums that a
- * side lost, and the references that it moved, dependencies on packages that neither side has for them:
- * a line for each with a newline at the end, as `cargo-lock merge` prints it on standard error. Where
+/* What this merge reports: that both sides changed the comments at the top, the versions of members of
+ * the workspace that it chose, the checksums that a side lost, and the references that it moved,
+ * dependencies on packages that neither side has for them: a line for each with a newline at the end, as `cargo-lock merge` prints it on standard error. Where
  * there is nothing to report the length is 0. It has a call of its own so that each call has one buffer. The
  * statuses are those of cargo_lock_merge, with the same texts at CONFLICTS and at .._REFUSED. */
 uint32_t cargo_lock_merge_moved(const uint8_t *base, size_t base_len, const uint8_t *ours,

@@ -3,7 +3,7 @@ of them says how a merge is found: they know places, and otherwise only read loc
 """
 import re
 
-from lockfiles import Refused, print_text, read, version_order
+from lockfiles import Refused, kept_comments, print_text, read, version_order
 from model import ROLES, Side, doubled_names, rule3, shown, with_commit
 
 LINE = re.compile(r"(conflict: .*?: )(.* -> )?(.*) \(ours\), (.*) \(theirs\)")
@@ -14,6 +14,7 @@ MOVED = re.compile(r"(moved: .*) \((?:ours: (.*?))?(?:, )?(?:theirs: (.*))?\)")
 
 VERSION = re.compile(r"(version: .*: )(.*) \(ours\), (.*) \(theirs\): its manifest decides")
 NOTICE = re.compile(r"alarm: .*: checksum gone in (ours|theirs|ours and theirs)|" + VERSION.pattern)
+DISPUTED_COMMENTS = "comments: both sides changed those at the top; ours are taken"
 EXCHANGED = {"ours": "theirs", "theirs": "ours"}
 
 
@@ -31,6 +32,7 @@ class View:
 
     def __init__(self, text, doubled, role="merged"):
         self.lockfile = read(text)
+        self.comments = kept_comments(text)
         self.side = Side(role, self.lockfile, doubled)
         self.at = self.side.at
 
@@ -93,13 +95,23 @@ def check_answer(texts, answer):
     check_both(views, merged)
     check_moved(views, merged, answer)
     check_notices(views, merged, answer)
+    check_comments(views, merged, answer)
+
+
+def check_comments(views, merged, answer):
+    """The comments at the top are one value of the rule of three, and ours where it has none."""
+    base, ours, theirs = (it.comments for it in views)
+    ask((DISPUTED_COMMENTS in answer.lines) == (ours != theirs and base not in (ours, theirs)), "disputed comments are told")
+    wanted = theirs if ours == base else ours
+    ask(merged.comments == wanted, "the comments at the top are merged")
 
 
 def check_sound(views, merged, answer):
     """What placing a lockfile does not ask: one package at each place, one commit of each source,
     and a package for each dependency."""
     ask(not merged.has_orphan(), "a merge has no orphan")
-    ask(print_text(merged.lockfile) == answer.text, "a merge is printed as Cargo prints it")
+    ask(print_text(merged.lockfile, merged.comments) == answer.text,
+        "a merge is printed as Cargo prints it")
     ask(merged.lockfile.format == max(it.lockfile.format for it in views[1:]),
         "a merge has the later format")
     roots = {place for it in views for place in it.roots()}
@@ -153,7 +165,8 @@ def check_moved(views, merged, answer):
     moved = [f"moved: {with_commit(it.key())} on {with_commit(merged.at[to].key())}"
              for place, it in merged.at.items() for to in it.dependencies
              if to.source and not any(has_reference(side, merged, place, to) for side in views[1:])]
-    lines = [MOVED.fullmatch(it) for it in answer.lines if not NOTICE.fullmatch(it)]
+    lines = [MOVED.fullmatch(it) for it in answer.lines
+             if it != DISPUTED_COMMENTS and not NOTICE.fullmatch(it)]
     ask(all(lines), f"moved references are reported in lines: {answer.lines}")
     reported = [SOURCE.sub("", it[1]) for it in lines]
     ask(sorted(reported) == sorted(moved), f"each moved reference is reported: {moved}")
@@ -241,6 +254,15 @@ def check_one_side(merge, texts, number):
     ask(answer.status == 0 and len(answer.lines) == len(lost), f"{what} is x: {answer.lines}")
     if not lost:
         ask(contents(answer.text) == contents(change), f"{what} is x")
+        # (the merge has the later format of both sides)
+        is_later = max(it.format for it in lockfiles[1:]) == view.lockfile.format
+        ask(answer.text == change or not is_later or not is_of_cargo(change),
+            f"{what} is x, to the byte")
+
+
+def is_of_cargo(text):
+    """Whether a text is as Cargo writes it."""
+    return print_text(read(text), kept_comments(text)) == text
 
 
 def other_checksums(base, side):

@@ -13,8 +13,8 @@ import sys
 
 sys.dont_write_bytecode = True
 
-from lockfiles import Identity, Lockfile, Package, Refused, numbers, print_text, read
-from lockfiles import version_order
+from lockfiles import Identity, Lockfile, Package, Refused, kept_comments, numbers, print_text
+from lockfiles import read, version_order
 
 ROLES = ("base", "ours", "theirs")
 # What a side without a thing has, and the answer of the rule of three where both changed it.
@@ -476,7 +476,12 @@ def merge(texts):
         return Answer(2, "", [f"*** error: {error}"])
     if merge.conflicts:
         return Answer(1, "", merge.conflicts)
-    return Answer(0, print_text(merge.answer), merge.remarks)
+    kept = [kept_comments(it) for it in texts]
+    comments, told = rule3(*kept), []
+    if comments == DISPUTED:
+        comments = kept[1]
+        told.append("comments: both sides changed those at the top; ours are taken")
+    return Answer(0, print_text(merge.answer, comments), told + merge.remarks)
 
 
 def text_at(path, may_lack):

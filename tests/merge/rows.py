@@ -10,8 +10,9 @@ HERE = os.path.dirname(os.path.realpath(__file__))
 TESTS = os.path.dirname(HERE)
 # Lockfiles that are not the merge of themselves. In the first two a dependency on a revision leads
 # to the last package at its commit, as edges do, in the third V1 has another reference for the
-# branch `master`, and in the fourth a source has `%5E` for the `^` of a path.
-NOT_KEPT = re.compile(r"order\.v|gitsame\.v[12]|masteronly\.v1|unicode\.v")
+# branch `master`, in the fourth a source has `%5E` for the `^` of a path, and the fifth, which has no
+# metadata, is of V2 for a reader: only in V1 Cargo leaves a line empty at the end.
+NOT_KEPT = re.compile(r"order\.v|gitsame\.v[12]|masteronly\.v1|unicode\.v|single\.v1")
 
 
 def text_of(path):
@@ -88,19 +89,12 @@ def ask_refusals(merge):
     yield "what is refused beside them", fault_of(merge([sound] * 3), (0, sound, []))
 
 
-def plain(text):
-    """The text without the empty lines that the program writes and Cargo does not."""
-    return re.sub(r"(?<=manual editing\.\n)\n(?=\[)", "", text).replace("\n\n\n", "\n\n").strip("\n")
-
-
 def ask_wrote(merge):
-    """Each lockfile that Cargo wrote, merged with itself over itself and over nothing."""
+    """Each lockfile that Cargo wrote, merged with itself over itself and over nothing, to the byte."""
     for path in sorted(glob.glob(f"{TESTS}/cargo/wrote/*.lock")):
         name, text = os.path.basename(path), text_of(path)
         if NOT_KEPT.match(name) or ".v4." not in name and lossy_sources(text):
             continue
         for base in (text, ""):
-            answer = merge([base, text, text])
-            wanted = (0, plain(text), [])
             yield (f"{name} over {'itself' if base else 'nothing'}",
-                   fault_of(answer._replace(text=plain(answer.text)), wanted))
+                   fault_of(merge([base, text, text]), (0, text, [])))

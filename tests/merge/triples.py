@@ -298,6 +298,13 @@ def spoil(rng, lockfile):
             lockfile.packages.append(Package(other, sourced[0].checksum))
 
 
+def some_comments(rng):
+    """The comments of the base, of ours and of theirs."""
+    kinds = [(), ("# by our team",), ("#", "# It is not intended for manual editing."), ("#\u00e9\"",)]
+    base = rng.choice(kinds) if rng.random() < 0.2 else ()
+    return [base, *(rng.choice(kinds) if rng.random() < 0.1 else base for _ in range(2))]
+
+
 def triple(seed):
     """The texts of the base, of ours and of theirs."""
     rng = random.Random(seed)
@@ -311,4 +318,5 @@ def triple(seed):
         lockfiles[0] = Lockfile(2, [])
     if rng.random() < 0.02:
         spoil(rng, rng.choice(lockfiles))
-    return [print_text(it) if it.packages else "" for it in lockfiles]
+    comments = some_comments(random.Random(f"comments {seed}"))
+    return [print_text(*it) if it[0].packages else "" for it in zip(lockfiles, comments)]

@@ -176,16 +176,21 @@ def runs_of(top):
     return [*found, ([], not last)]
 
 
-def prove_in_parts(top, log):
-    """Proves a repository as `prove` does, by several runs where the kit keeps what one proved for
-    the next. The crates beside which most processors have nothing to do, at the beginning and at
-    the end, get these too."""
+def has_parts():
+    """Returns whether several runs can prove a repository: the kit keeps what one proved for the
+    next, and it is not CI that asks, where `rt ci` takes no names."""
+    return machine.keeps_proofs() and os.environ.get("CI") != "true"
+
+
+def prove_in_parts(top, log, started=lambda child: None):
+    """Proves a repository as `prove` does, by several runs where it has parts. The crates beside
+    which most processors have nothing to do, at the beginning and at the end, get these too."""
     prover = Prover(top, log)
-    left = runs_of(top) if machine.keeps_proofs() else [([], True)]
+    left = runs_of(top) if has_parts() else [([], True)]
     status = 0
     while left and not status:
         names, has_jobs = left.pop(0)
-        status = prover.run(names, has_jobs)
+        status = prover.run(names, has_jobs, started)
         if names and not prover.progress.proved:
             # (the first crates are kept, and so are most)
             left = [([], True)]

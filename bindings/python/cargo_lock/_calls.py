@@ -62,8 +62,9 @@ class MergeRefused(Error, ValueError):
 
 @dataclasses.dataclass(frozen=True)
 class Merge:
-    """A merged lockfile: its text, and a line for each thing that the merge reports: a version that it
-    chose, a checksum that a side lost, and a dependency on a package that neither side has for it."""
+    """A merged lockfile: its text, and a line for each thing that the merge reports: other comments at
+    the top of both sides, a version that it chose, a checksum that a side lost, and a dependency on a
+    package that neither side has for it."""
 
     text: str
     moved: tuple[str, ...]

@@ -152,8 +152,9 @@ pub struct Merge {
     /// Its text.
     pub text: String,
 
-    /// What the merge reports: a line for each version that it chose, each checksum that a side lost, and
-    /// each dependency on a package that neither side has for it.
+    /// What the merge reports: a line for other comments at the top of both sides, each version that it
+    /// chose, each checksum that a side lost, and each dependency on a package that neither side has for
+    /// it.
     pub moved: Vec<String>,
 }
 

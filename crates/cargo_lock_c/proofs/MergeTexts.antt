@@ -1,10 +1,10 @@
 -- Why three texts have no merge, and the text about one.
 use Rattle.std.proofs.Common.{◌≡◌, ◌≤◌, ℕ, List, arith, inl, inr, refl, subst, sym}
-use Rattle.cargo_lock_encoding.specs.Lockfiles.{LockfileData}
+use Rattle.cargo_lock_merge.specs.declared.inputs.MergeInput.{MergeInput}
 use Rattle.cargo_lock_c.specs.declared.merge.Ending.{Ending}
 use Rattle.cargo_lock_c.specs.declared.refusal.Refusal.{Refusal}
 use Rattle.cargo_lock_c.specs.declared.refusal.Refusal.TheVariants.{NoLockfile, NoText, NoMemory, NoFormat, Lost, Unresolved, NoPackage, NoLine, NoNewLockfile, NoNewText, Repeated, NothingFits, NoSpecText, NoThirdLockfile, NoThirdText}
-use Rattle.cargo_lock_c.specs.Merges.{IsAnswered, IsComparedOf, IsHandedOutWith, LacksMerge, MeansLockfile}
+use Rattle.cargo_lock_c.specs.Merges.{IsAnswered, IsInputOfText, IsHandedOutWith, LacksMerge, MeansLockfile}
 use Rattle.cargo_lock_c.specs.Statuses.{refusal_of_new, refusal_of_third, status_of}
 use Rattle.cargo_lock_c.specs.Texts.{RefusesText}
 use Rattle.cargo_lock_c.proofs.HandedOut.{handed-answer}
@@ -73,8 +73,8 @@ pub memory-lacks : (base ours theirs : List ℕ) (r : Refusal) → r ≡ NoMemor
 memory-lacks base ours theirs r memory = subst (LacksMerge base ours theirs) (sym memory) tt
 
 -- a lockfile of the text was read
-pub is-read : (text : List ℕ) (x : LockfileData) → IsComparedOf text x → MeansLockfile text
-is-read text x h = (h.0, h.1)
+pub is-read : (text : List ℕ) (input : MergeInput) → IsInputOfText text input → MeansLockfile text
+is-read text input h = (h.0, h.1)
 
 -- ---- the text in the caller's buffer
 

@@ -4,10 +4,13 @@ use Rattle.std.specs.Prelude.{IsUtf8, string_bytes}
 use Rattle.cargo_lock.specs.CargoChecksums.{with_cargo_checksums_in}
 use Rattle.cargo_lock_encoding.specs.Lockfiles.{LockfileData}
 use Rattle.cargo_lock_encoding.specs.Means.{TextMeans}
+use Rattle.cargo_lock_merge.specs.Comments.{comments_line}
+use Rattle.cargo_lock_merge.specs.Inputs.{AreInputComments, IsInputOf, lockfiles_in}
 use Rattle.cargo_lock_merge.specs.Lines.{conflicts_text, merge_error_text, remark_lines}
-use Rattle.cargo_lock_merge.specs.MergedLockfiles.{IsMergeError, LockfileTriple, MergesTo}
-use Rattle.cargo_lock_merge.specs.MergedLockfiles.{triple_of}
-use Rattle.cargo_lock_merge.specs.Spelling.{with_cargo_spelling}
+use Rattle.cargo_lock_merge.specs.MergedLockfiles.{IsMergeError, MergesTo}
+use Rattle.cargo_lock_merge.specs.declared.comments.MergedComments.{MergedComments}
+use Rattle.cargo_lock_merge.specs.declared.inputs.MergeInput.{MergeInput}
+use Rattle.cargo_lock_merge.specs.declared.inputs.MergeInputs.{MergeInputs}
 use Rattle.cargo_lock_merge.specs.declared.lockfiles.LockfileMerge.{LockfileMerge}
 use Rattle.cargo_lock_merge.specs.declared.lockfiles.LockfileMerge.TheVariants as merge
 use Rattle.cargo_lock_merge.specs.declared.lockfiles.MergeError.{MergeError}
@@ -24,7 +27,6 @@ use Rattle.cargo_lock_c.specs.declared.refusal.Refusal.{Refusal}
 use Rattle.cargo_lock_c.specs.declared.refusal.Refusal.TheVariants.{NoLockfile, NoText, NoMemory}
 use Rattle.cargo_lock_c.specs.declared.refusal.Refusal.TheVariants.{NoNewLockfile, NoNewText}
 use Rattle.cargo_lock_c.specs.declared.refusal.Refusal.TheVariants.{NoThirdLockfile, NoThirdText}
-use Rattle.cargo_lock_c.specs.declared.three.Three.{Three}
 use Rattle.cargo_lock_c.specs.Answers.{IsHandedOut}
 use Rattle.cargo_lock_c.specs.Statuses.{status_of}
 use Rattle.cargo_lock_c.specs.Texts.{MeansNothing}
@@ -35,21 +37,17 @@ use Rattle.cargo_lock_c.specs.Texts.{MeansNothing}
 abbrev pub MeansLockfile : List ℕ → Type 0
 MeansLockfile text = (l : LockfileData) × TextMeans text l
 
--- the text is that of a lockfile, and this is it with the checksums that Cargo reads, and with
--- crates.io as Cargo writes it
-abbrev pub IsComparedOf : List ℕ → LockfileData → Type 0
-IsComparedOf text x = (l : LockfileData) × TextMeans text l
-    × (x ≡ with_cargo_spelling (with_cargo_checksums_in l))
+-- the text is that of a lockfile, and the input is that of the text and of this lockfile with the
+-- checksums that Cargo reads
+abbrev pub IsInputOfText : List ℕ → MergeInput → Type 0
+IsInputOfText text input = (l : LockfileData) × TextMeans text l
+    × IsInputOf (with_cargo_checksums_in l) text input
 
--- these are the lockfiles of the three texts
-pub record AreOfTexts (first second third : List ℕ) (s : LockfileTriple) : Type 0 where
-  pub base : IsComparedOf first s.base
-  pub ours : IsComparedOf second s.ours
-  pub theirs : IsComparedOf third s.theirs
-
--- the three lockfiles
-abbrev pub triple_of_texts : Three → LockfileTriple
-triple_of_texts three = triple_of three.base three.ours three.theirs
+-- these are the inputs of the three texts
+pub record AreOfTexts (first second third : List ℕ) (inputs : MergeInputs) : Type 0 where
+  pub base : IsInputOfText first inputs.base
+  pub ours : IsInputOfText second inputs.ours
+  pub theirs : IsInputOfText third inputs.theirs
 
 -- Why three texts have no merge: memory ran out, or one of them is not that of a lockfile or not
 -- UTF-8. They are read in their order.
@@ -76,16 +74,16 @@ status_with (Refused Ours) = 17
 status_with (Refused Theirs) = 18
 
 -- what is asked of a merge that there is: its text, or the lines of what it reports
-abbrev pub asked_text : Part → List ℕ → Remarks → List ℕ
-asked_text Text text remarks = text
-asked_text Moved text remarks = remark_lines remarks
+abbrev pub asked_text : Part → MergedComments → List ℕ → Remarks → List ℕ
+asked_text Text comments text remarks = text
+asked_text Moved comments text remarks = comments_line comments ++ remark_lines remarks
 
 -- how a merge of lockfiles ends, and the text about it: what is asked of it, or a line for each
 -- conflict
-abbrev pub IsTextAbout : Part → LockfileMerge → Ending → List ℕ → Type 0
-IsTextAbout part (merge.Merged l text remarks) ending bytes = (ending ≡ Merged)
-    × (bytes ≡ asked_text part (string_bytes text) remarks)
-IsTextAbout part (merge.InConflict conflicts) ending bytes = (ending ≡ InConflict)
+abbrev pub IsTextAbout : Part → MergedComments → LockfileMerge → Ending → List ℕ → Type 0
+IsTextAbout part comments (merge.Merged l text remarks) ending bytes = (ending ≡ Merged)
+    × (bytes ≡ asked_text part comments (string_bytes text) remarks)
+IsTextAbout part comments (merge.InConflict conflicts) ending bytes = (ending ≡ InConflict)
     × (bytes ≡ conflicts_text conflicts)
 
 -- the lockfile that cannot be merged, if memory did not run out
@@ -99,16 +97,19 @@ abbrev pub IsTextAboutError : MergeError → Ending → List ℕ → Type 0
 IsTextAboutError fault ending bytes = (role : Role) × (refused_role fault ≡ Some role)
     × (ending ≡ Refused role) × (bytes ≡ merge_error_text fault ++ newline ∷ [])
 
--- the text about three lockfiles: what their merge is, or why there is none
-abbrev pub IsTextOfMerge : Part → LockfileTriple → Ending → List ℕ → Type 0
-IsTextOfMerge part s ending bytes =
-    ((m : LockfileMerge) × MergesTo s m × IsTextAbout part m ending bytes)
-    ⊎ ((fault : MergeError) × IsMergeError s fault × IsTextAboutError fault ending bytes)
+-- the text about three lockfiles: what their merge with these comments is, or why there is none
+abbrev pub IsTextOfMerge : Part → MergedComments → MergeInputs → Ending → List ℕ → Type 0
+IsTextOfMerge part comments inputs ending bytes =
+    ((m : LockfileMerge) × MergesTo comments.text.now (lockfiles_in inputs) m
+    × IsTextAbout part comments m ending bytes)
+    ⊎ ((fault : MergeError) × IsMergeError (lockfiles_in inputs) fault
+    × IsTextAboutError fault ending bytes)
 
 -- the three texts are those of lockfiles, and this is the text about them
 abbrev pub IsMergeText : Part → (base ours theirs : List ℕ) → Ending → List ℕ → Type 0
-IsMergeText part base ours theirs ending bytes = (s : LockfileTriple)
-    × AreOfTexts base ours theirs s × IsTextOfMerge part s ending bytes
+IsMergeText part base ours theirs ending bytes = (inputs : MergeInputs)
+    × AreOfTexts base ours theirs inputs × (comments : MergedComments)
+    × AreInputComments inputs comments × IsTextOfMerge part comments inputs ending bytes
 
 -- ---- what callers get
 

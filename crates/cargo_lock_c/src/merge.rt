@@ -1,16 +1,20 @@
 //! The merge of three lockfiles by packages.
 
-ghost use Rattle.std.specs.Prelude.{◌≡◌, IfErr, IfOk, string_bytes};
+ghost use Rattle.std.specs.Prelude.{◌≡◌, ◌++◌, IfErr, IfOk, string_bytes};
 ghost use Rattle.cargo_lock_c.specs.declared.refusal.Refusal.TheVariants.{NoMemory};
 ghost use Rattle.cargo_lock_c.specs.Merges.{IsHandedOutWith, IsMergeAnswered, IsMergeText};
 ghost use Rattle.cargo_lock_c.specs.Merges.{IsTextAbout, IsTextAboutError, IsTextOfMerge};
+ghost use Rattle.cargo_lock_merge.specs.Comments.{comments_line};
+ghost use Rattle.cargo_lock_merge.specs.Lines.{remark_lines};
 ghost use Rattle.cargo_lock_c.specs.Merges.{LacksMerge, asked_text, refused_role};
-ghost use Rattle.cargo_lock_c.specs.Merges.{status_with, triple_of_texts};
+ghost use Rattle.cargo_lock_c.specs.Merges.{status_with};
 
 use crate::handing::hand_out;
 use crate::refusal::{DONE, Refusal};
-use crate::three::{Three, read_three};
-use cargo_lock_merge::lockfiles::{LockfileMerge, MergeError, merge_lockfiles};
+use crate::three::read_three;
+use cargo_lock_merge::MergeInputs;
+use cargo_lock_merge::comments::MergedComments;
+use cargo_lock_merge::lockfiles::{LockfileMerge, MergeError};
 use cargo_lock_merge::notice::Remarks;
 use cargo_lock_merge_core::triple::Role;
 use std::alloc::Global;
@@ -84,8 +88,8 @@ pub extern "C" fn cargo_lock_merge(
     }
 }
 
-/// The references that the merge of two lockfiles over their base moved: a line for each, as
-/// `cargo-lock merge` prints it. The statuses are those of `cargo_lock_merge`, with its texts where
+/// What the merge of two lockfiles over their base reports: a line for each, as `cargo-lock merge`
+/// prints it. The statuses are those of `cargo_lock_merge`, with its texts where
 /// there is no merge.
 #[unsafe(no_mangle)]
 pub extern "C" fn cargo_lock_merge_moved(
@@ -131,33 +135,43 @@ fn read_and_merge(
         (string_bytes answer.text)) }
     ensures err { IfErr result (LacksMerge base.now ours.now theirs.now) }
 {
-    let three = read_three(alloc, base, ours, theirs)?;
-    let answer = answer_of(alloc, &three, part)?;
+    let inputs = read_three(alloc, base, ours, theirs)?;
+    let answer = answer_of(alloc, &inputs, inputs.comments(), part)?;
     Ok(answer)
 }
 
 /// How the merge of three lockfiles ends, and the text about it.
-fn answer_of(alloc: Global, three: &Three, part: Part) -> Result<Answer, Refusal>
-    ensures ok { IfOk result (λ answer. IsTextOfMerge part (triple_of_texts three.now) answer.ending
+fn answer_of(
+    alloc: Global,
+    inputs: &MergeInputs,
+    comments: MergedComments<'_>,
+    part: Part,
+) -> Result<Answer, Refusal>
+    ensures ok { IfOk result (λ answer. IsTextOfMerge part comments.entry inputs.now answer.ending
         (string_bytes answer.text)) }
     ensures err { IfErr result (λ refusal. refusal ≡ NoMemory) }
 {
-    match merge_lockfiles(alloc, &three.base, &three.ours, &three.theirs) {
-        Ok(merge) => merge_answer(alloc, merge, part),
+    match inputs.merge(alloc, comments) {
+        Ok(merge) => merge_answer(alloc, merge, comments, part),
         Err(error) => error_answer(alloc, error),
     }
 }
 
 /// The text about a merge of lockfiles.
-fn merge_answer(alloc: Global, merge: LockfileMerge<'_>, part: Part) -> Result<Answer, Refusal>
-    ensures ok { IfOk result (λ answer. IsTextAbout part merge.entry answer.ending
+fn merge_answer(
+    alloc: Global,
+    merge: LockfileMerge<'_>,
+    comments: MergedComments<'_>,
+    part: Part,
+) -> Result<Answer, Refusal>
+    ensures ok { IfOk result (λ answer. IsTextAbout part comments.entry merge.entry answer.ending
         (string_bytes answer.text)) }
     ensures err { IfErr result (λ refusal. refusal ≡ NoMemory) }
 {
     match merge {
         LockfileMerge::Merged(_, text, remarks) => Ok(Answer {
             ending: Ending::Merged,
-            text: part_text(alloc, part, text, &remarks)?,
+            text: part_text(alloc, part, text, comments, &remarks)?,
         }),
         LockfileMerge::InConflict(conflicts) => Ok(Answer {
             ending: Ending::InConflict,
@@ -171,16 +185,32 @@ fn part_text(
     alloc: Global,
     part: Part,
     text: String,
+    comments: MergedComments<'_>,
     remarks: &Remarks<'_>,
 ) -> Result<String, Refusal>
     ensures ok { IfOk result (λ asked. string_bytes asked
-        ≡ asked_text part (string_bytes text) remarks.now) }
+        ≡ asked_text part comments.entry (string_bytes text) remarks.now) }
     ensures err { IfErr result (λ refusal. refusal ≡ NoMemory) }
 {
     match part {
         Part::Text => Ok(text),
-        Part::Moved => Ok(remarks.lines(alloc)?),
+        Part::Moved => moved_text(alloc, comments, remarks),
     }
+}
+
+/// The lines of what a merge reports.
+fn moved_text(
+    alloc: Global,
+    comments: MergedComments<'_>,
+    remarks: &Remarks<'_>,
+) -> Result<String, Refusal>
+    ensures ok { IfOk result (λ lines. string_bytes lines
+        ≡ comments_line comments.entry ++ remark_lines remarks.now) }
+    ensures err { IfErr result (λ refusal. refusal ≡ NoMemory) }
+{
+    let mut lines = String::from_str(alloc, comments.line())?;
+    lines.push_str(remarks.lines(alloc)?.as_str())?;
+    Ok(lines)
 }
 
 /// The text about why a lockfile cannot be merged.

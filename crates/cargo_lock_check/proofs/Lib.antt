@@ -1,4 +1,3 @@
-pub mod Lines
 pub mod Carets
 pub mod OwnChecksums
 pub mod Told

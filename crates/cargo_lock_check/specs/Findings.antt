@@ -36,7 +36,8 @@ use Rattle.lists.specs.Places.{IsPlaces}
 use Rattle.cargo_lock_flaws.specs.Reach.{IsOrphan}
 use Rattle.cargo_lock_flaws.specs.Sources.{HasUserInfo, IsFromAt, IsLookAlike, IsRespelt}
 use Rattle.cargo_lock_flaws.specs.Stale.{stale_keys}
-use Rattle.cargo_lock_check.specs.Text.{AreSameLines, IsFirstOther, OtherLineData, cargo_lines}
+use Rattle.cargo_lock_check.specs.Text.{AreSameLines, IsFirstOther, OtherLineData}
+use Rattle.cargo_lock_layout.specs.Lines.{cargo_lines}
 
 -- what is found, with the packages and the format to which it refers
 pub record FindingsData : Type 0 where

@@ -1,12 +1,7 @@
--- The lines of a text, and the lines that Cargo writes for its lockfile.
--- The rule is measured on the lockfiles in `tests/cargo`, which Cargo 1.95.0 wrote; Cargo's own is
--- in its `src/cargo/ops/lockfile.rs`.
-use Rattle.std.specs.Prelude.{◌≡◌, ◌≢◌, ◌<◌, ◌&&◌, ◌++◌, ◌∷◌, ◌==◌, ℕ, zero, suc, Bool, not, if◌then◌else◌, List, [], codes, drop, eqb, take, length, slice_index_or}
-use Rattle.std.specs.List.{dedup, starts_with, take_while}
-
--- the line at a place, or an empty one after the last
-abbrev pub line_or_empty : List (List ℕ) → ℕ → List ℕ
-line_or_empty lines k = slice_index_or lines k []
+-- The lines of a text beside those that Cargo writes.
+use Rattle.std.specs.Prelude.{◌≡◌, ◌≢◌, ◌<◌, ◌∷◌, ℕ, zero, suc, if◌then◌else◌, List, [], codes, eqb}
+use Rattle.std.specs.List.{starts_with}
+use Rattle.cargo_lock_layout.specs.Lines.{line_or_empty}
 
 -- a text without its first bytes, as many as the number says, and with `^` for each `%5E` in the
 -- rest
@@ -25,42 +20,6 @@ with_carets text = with_carets_after 0 text
 -- unchanged, where this library writes `%5E`.
 abbrev pub compared_at : List (List ℕ) → ℕ → List ℕ
 compared_at lines k = with_carets (line_or_empty lines k)
-
--- the line is empty
-abbrev pub is_empty : List ℕ → Bool
-is_empty line = length line == 0
-
--- the line begins with `#`
-abbrev pub is_comment : List ℕ → Bool
-is_comment line = slice_index_or line 0 0 == 35
-
--- both lines are empty
-abbrev pub are_empty : List ℕ → List ℕ → Bool
-are_empty a b = is_empty a && is_empty b
-
--- Cargo keeps the comments that a text has after its own two
-abbrev pub kept_comments : List (List ℕ) → List (List ℕ)
-kept_comments written = take_while is_comment (drop 2 written)
-
--- the format has no number in the file: this library then prints an empty line after the comments
-abbrev pub is_unnumbered : List (List ℕ) → Bool
-is_unnumbered printed = is_empty (line_or_empty printed 2)
-
--- the two comments, which may be missing if there is no number, as Cargo did not always write them
-abbrev pub header : List (List ℕ) → List (List ℕ) → List (List ℕ)
-header written printed =
-    if is_unnumbered printed && not (is_comment (line_or_empty written 0)) then [] else take 2 printed
-
--- the place at which the lines after the two comments begin: Cargo prints no empty line there
-abbrev pub body_place : List (List ℕ) → ℕ
-body_place printed = if is_unnumbered printed then 3 else 2
-
--- The lines that Cargo writes in place of `written`, for a lockfile that this library prints as the
--- lines `printed`: Cargo's two comments, the comments that it keeps, and the rest. Between two
--- unused patches Cargo leaves one line empty, where this library leaves two.
-abbrev pub cargo_lines : List (List ℕ) → List (List ℕ) → List (List ℕ)
-cargo_lines written printed = dedup are_empty
-    (header written printed ++ (kept_comments written ++ drop (body_place printed) printed))
 
 -- the lines are the same, up to empty ones at the end
 abbrev pub AreSameLines : List (List ℕ) → List (List ℕ) → Type 0

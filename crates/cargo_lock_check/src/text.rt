@@ -1,12 +1,16 @@
 //! The first line of a text that is not as Cargo writes it.
 
-ghost use Rattle.std.specs.Prelude.{◌≡◌, ◌≢◌, ◌<◌, ◌+◌, ◌++◌, ℕ, IfOk, MatchOption, OnOk, codes, drop, eqb, length};
+ghost use Rattle.std.specs.Prelude.{◌≡◌, ◌≢◌, ◌<◌, ◌+◌, ◌++◌, ℕ, IfOk, MatchOption, codes, drop};
+ghost use Rattle.std.specs.Prelude.{eqb, length};
 ghost use Rattle.std.specs.Bool.{Decides};
-ghost use Rattle.std.specs.List.{dedup, starts_with, take_while};
+ghost use Rattle.std.specs.List.{starts_with};
 ghost use Rattle.std.specs.Str.Lines.{lines};
-ghost use Rattle.cargo_lock_check.specs.Text.{AreSameLines, IsFirstOther, are_empty, body_place, cargo_lines, compared_at, header, is_comment, is_unnumbered, line_or_empty, with_carets, with_carets_after};
+ghost use Rattle.cargo_lock_check.specs.Text.{AreSameLines, IsFirstOther, compared_at, with_carets};
+ghost use Rattle.cargo_lock_check.specs.Text.{with_carets_after};
+ghost use Rattle.cargo_lock_layout.specs.Lines.{cargo_lines};
 ghost use Rattle.cargo_lock.specs.Texts.{texts_at};
 
+use cargo_lock_layout::{cargo_lines, line_or_empty};
 use cargo_lock_location::lines_in;
 use std::alloc::{AllocError, Global};
 use std::marker::Model;
@@ -53,82 +57,6 @@ pub(crate) fn first_other_line<'a>(
     let wanted = cargo_lines(alloc, written.as_slice(), printed.as_slice())?;
     let other = first_other(alloc, written.as_slice(), wanted.as_slice())?;
     Ok(other)
-}
-
-// The lines that Cargo writes.
-fn cargo_lines<'a>(
-    alloc: Global,
-    written: &[&'a str],
-    printed: &[&'a str],
-) -> Result<Vec<&'a str>, AllocError>
-    ensures { IfOk result (λ all. texts_at all.items
-        ≡ cargo_lines (texts_at written.now) (texts_at printed.now)) }
-{
-    let mut all = Vec::with_capacity(alloc, printed.len())?;
-    all.extend_from_slice(header(written, printed))?;
-    add_comments(&mut all, lines_from(written, 2))?;
-    all.extend_from_slice(lines_from(printed, body_place(printed)))?;
-    leave_one_empty(&mut all);
-    Ok(all)
-}
-
-// Cargo's two comments, which may be missing if the format has no number.
-fn header<'a, 'b>(written: &[&'a str], printed: &'b [&'a str]) -> &'b [&'a str]
-    ensures { texts_at result.now ≡ header (texts_at written.now) (texts_at printed.now) }
-{
-    if is_unnumbered(printed) && !is_comment(line_or_empty(written, 0)) {
-        &[]
-    } else {
-        &printed[..printed.len().min(2)]
-    }
-}
-
-// Whether the format has no number in the file.
-fn is_unnumbered(printed: &[&str]) -> bool
-    ensures { result ≡ is_unnumbered (texts_at printed.now) }
-{
-    line_or_empty(printed, 2).is_empty()
-}
-
-// The place after the two comments at which the lines begin that Cargo writes too.
-fn body_place(printed: &[&str]) -> usize
-    ensures { result ≡ body_place (texts_at printed.now) }
-{
-    if is_unnumbered(printed) { 3 } else { 2 }
-}
-
-// Removes all but one of consecutive empty lines.
-fn leave_one_empty(lines: &mut Vec<&str>)
-    ensures { texts_at lines.new.items ≡ dedup are_empty (texts_at lines.old.items) }
-{
-    lines.dedup_by(|a, b| a.is_empty() && b.is_empty());
-}
-
-// The lines from a place on.
-fn lines_from<'a, 'b>(lines: &'b [&'a str], start: usize) -> &'b [&'a str]
-    ensures { result.now ≡ drop start lines.now }
-{
-    &lines[lines.len().min(start)..]
-}
-
-// Adds the comments at the beginning.
-fn add_comments<'a>(all: &mut Vec<&'a str>, lines: &[&'a str]) -> Result<(), AllocError>
-    ensures { OnOk result (texts_at all.new.items
-        ≡ texts_at all.old.items ++ take_while is_comment (texts_at lines.now)) }
-{
-    for line in lines {
-        if !is_comment(line) {
-            return Ok(());
-        }
-        all.push(*line)?;
-    }
-    Ok(())
-}
-
-fn is_comment(line: &str) -> bool
-    ensures { result ≡ is_comment line.now }
-{
-    line.starts_with('#')
 }
 
 fn first_other(
@@ -225,14 +153,4 @@ fn has_escape(text: &[u8], at: usize) -> bool
     ensures { result ≡ starts_with eqb (drop at text.now) (codes "%5E") }
 {
     text[at..].starts_with(b"%5E")
-}
-
-// The line at a place, or an empty one after the last.
-fn line_or_empty<'a>(lines: &[&'a str], place: usize) -> &'a str
-    ensures { result.now ≡ line_or_empty (texts_at lines.now) place }
-{
-    match lines.get(place) {
-        Some(line) => *line,
-        None => "",
-    }
 }

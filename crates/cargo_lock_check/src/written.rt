@@ -9,7 +9,8 @@ ghost use Rattle.cargo_lock_references.specs.declared.version.ResolveVersion.The
 ghost use Rattle.cargo_lock_encoding.specs.Survives.{Survives, in_format};
 ghost use Rattle.cargo_lock.specs.CargoChecksums.{with_cargo_checksums_in};
 ghost use Rattle.cargo_lock_check.specs.Findings.{CanBeV1, IsOtherLine, IsWrittenInV1, printed_lines};
-ghost use Rattle.cargo_lock_check.specs.Text.{AreSameLines, IsFirstOther, cargo_lines};
+ghost use Rattle.cargo_lock_check.specs.Text.{AreSameLines, IsFirstOther};
+ghost use Rattle.cargo_lock_layout.specs.Lines.{cargo_lines};
 
 use crate::text::{OtherLine, first_other_line};
 use cargo_lock::Lockfile;

@@ -11,7 +11,13 @@ ghost use Rattle.std.specs.Prelude.{◌<◌, IfSome, length};
 /// limit. Of a lockfile that Cargo wrote they may not, unless it is a very large one.
 pub(crate) fn may_be_beyond(text: &str, limit: u32) -> bool {
     let bytes = text.as_bytes();
-    match (limit as usize).checked_div(strings(bytes)) {
+    let limit = limit as usize;
+    // (the marks are counted only where half of the bytes would be too many)
+    let longest = limit.checked_div(bytes.len() / 2).unwrap_or(limit);
+    if !has_part(bytes, longest.saturating_add(1)) {
+        return false;
+    }
+    match limit.checked_div(strings(bytes)) {
         Some(longest) => has_part(bytes, longest.saturating_add(1)),
         None => false,
     }

@@ -2,8 +2,8 @@
 -- laid out as Cargo lays it out: each package begins with a line of its own, and no text goes over
 -- several lines.
 use Rattle.std.specs.Prelude.{◌≡◌, ◌+◌, ◌<◌, ◌++◌, ◌&&◌, ◌||◌, [], ◌∷◌, ℕ, Bool, List, Option, None}
-use Rattle.std.specs.Prelude.{Some, bytes_eq, codes, drop, eqb, false, if◌then◌else◌, length, nat_eq}
-use Rattle.std.specs.Prelude.{not, slice_get, true}
+use Rattle.std.specs.Prelude.{Some, bytes_eq, codes, drop, eqb, false, if◌then◌else◌, length, map}
+use Rattle.std.specs.Prelude.{nat_eq, not, slice_get, true}
 use Rattle.std.specs.List.{list_all, starts_with}
 
 -- the line that begins a package
@@ -85,16 +85,26 @@ shows_each lines count =
 abbrev pub header_of : Bool → List (List ℕ) → ℕ → Option ℕ
 header_of shown lines k = if shown then slice_get (headers_from 0 lines) k else None
 
+-- the number of the line of a package that this line begins, if both are there: its name, and the line
+abbrev pub line_of_name : List (List ℕ) → Option (List ℕ) → Option ℕ → Option ℕ
+line_of_name lines None header = None
+line_of_name lines (Some name) header = line_of_header lines name header
+
 -- the number of the line of each of the packages with these names, if the lines show it; the first of
 -- them is at this place among the packages
-abbrev pub numbers_from : ℕ → Bool → List (List ℕ) → List (List ℕ) → List (Option ℕ)
+abbrev pub numbers_from : ℕ → Bool → List (List ℕ) → List (Option (List ℕ)) → List (Option ℕ)
 numbers_from k shown lines [] = []
 numbers_from k shown lines (name ∷ rest) =
-    line_of_header lines name (header_of shown lines k) ∷ numbers_from (k + 1) shown lines rest
+    line_of_name lines name (header_of shown lines k) ∷ numbers_from (k + 1) shown lines rest
 
--- the number of the line in which each package with one of these names begins, if it is known
+-- the number of the line in which each of the packages begins that have these names, as far as they
+-- have one, if it is known
+abbrev pub lines_of_names : List (List ℕ) → List (Option (List ℕ)) → List (Option ℕ)
+lines_of_names lines names = numbers_from 0 (shows_each lines (length names)) lines names
+
+-- the same of packages that have a name each
 abbrev pub lines_of_packages : List (List ℕ) → List (List ℕ) → List (Option ℕ)
-lines_of_packages lines names = numbers_from 0 (shows_each lines (length names)) lines names
+lines_of_packages lines names = lines_of_names lines (map Some names)
 
 -- ---- the same as relations
 
@@ -105,11 +115,11 @@ pub record IsNamedBelow (lines : List (List ℕ)) (name : List ℕ) : Type 0 whe
   pub between : (j : ℕ) (line : List ℕ) → j < place + 1 → slice_get lines j ≡ Some line
       → starts_with eqb line (codes "[") ≡ false
 
--- the package at a place among those with these names begins in the line with this number, from 1 on:
--- it is the line that has this place among those that begin packages, of which there are as many as
+-- the package with this name, at a place among so many, begins in the line with this number, from 1
+-- on: it is the line that has this place among those that begin packages, of which there are as many as
 -- packages; no line hides one, and the name of the package stands below it
-pub record IsLineOf (lines names : List (List ℕ)) (k : ℕ) (name : List ℕ) (n : ℕ) : Type 0 where
-  pub as_many : length (headers_from 0 lines) ≡ length names
+pub record IsLineOf (lines : List (List ℕ)) (count k : ℕ) (name : List ℕ) (n : ℕ) : Type 0 where
+  pub as_many : length (headers_from 0 lines) ≡ count
   pub clear : (j : ℕ) (line : List ℕ) → slice_get lines j ≡ Some line → is_clear line ≡ true
   pub place : ℕ
   pub is_kth : slice_get (headers_from 0 lines) k ≡ Some place
@@ -117,9 +127,14 @@ pub record IsLineOf (lines names : List (List ℕ)) (k : ℕ) (name : List ℕ) 
   pub named : IsNamedBelow (drop n lines) name
 
 -- a number is that of the line of the package, and without one no line is
-abbrev pub IsLineIf : List (List ℕ) → List (List ℕ) → ℕ → List ℕ → Option ℕ → Type 0
-IsLineIf lines names k name None = (n : ℕ) → ¬ IsLineOf lines names k name n
-IsLineIf lines names k name (Some n) = IsLineOf lines names k name n
+abbrev pub IsLineIf : List (List ℕ) → ℕ → ℕ → List ℕ → Option ℕ → Type 0
+IsLineIf lines count k name None = (n : ℕ) → ¬ IsLineOf lines count k name n
+IsLineIf lines count k name (Some n) = IsLineOf lines count k name n
+
+-- the same of a package that may have no name, and then no line
+abbrev pub IsLineIfNamed : List (List ℕ) → ℕ → ℕ → Option (List ℕ) → Option ℕ → Type 0
+IsLineIfNamed lines count k None found = found ≡ None
+IsLineIfNamed lines count k (Some name) found = IsLineIf lines count k name found
 
 -- ---- laws
 
@@ -127,7 +142,14 @@ IsLineIf lines names k name (Some n) = IsLineOf lines names k name n
 abbrev pub LinesAreThoseOfPackages : Type 0
 LinesAreThoseOfPackages = (lines names : List (List ℕ)) (k : ℕ) (name : List ℕ) (found : Option ℕ)
     → slice_get names k ≡ Some name → slice_get (lines_of_packages lines names) k ≡ Some found
-    → IsLineIf lines names k name found
+    → IsLineIf lines (length names) k name found
+
+-- the same of packages that may have no name
+abbrev pub LinesAreThoseOfNames : Type 0
+LinesAreThoseOfNames = (lines : List (List ℕ)) (names : List (Option (List ℕ))) (k : ℕ)
+    (name : Option (List ℕ)) (found : Option ℕ) → slice_get names k ≡ Some name
+    → slice_get (lines_of_names lines names) k ≡ Some found
+    → IsLineIfNamed lines (length names) k name found
 
 -- there is an answer for each package
 abbrev pub EachPackageIsAnswered : Type 0

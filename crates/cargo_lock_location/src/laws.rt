@@ -1,8 +1,8 @@
 //! Laws of the lines of packages, each the contract of a function without a body.
 
 ghost use Rattle.cargo_lock_location.specs.Lines.{LinesAreOwn};
-ghost use Rattle.cargo_lock_location.specs.Location.{EachPackageIsAnswered, LinesAreThoseOfPackages};
-ghost use Rattle.cargo_lock_location.specs.Location.{LinesBeginPackages};
+ghost use Rattle.cargo_lock_location.specs.Location.{EachPackageIsAnswered, LinesAreThoseOfNames};
+ghost use Rattle.cargo_lock_location.specs.Location.{LinesAreThoseOfPackages, LinesBeginPackages};
 
 /// The number of a package's line is exactly that of the line that begins it: there are as many lines
 /// that begin packages as packages, as many of them before it as packages before this one, and below it,
@@ -10,6 +10,12 @@ ghost use Rattle.cargo_lock_location.specs.Location.{LinesBeginPackages};
 /// has no number.
 pub fn lines_are_those_of_packages()
     ensures { LinesAreThoseOfPackages }
+{}
+
+/// The same where some of the packages have no name, as in a table that is no lockfile. These have no
+/// number.
+pub fn lines_are_those_of_names()
+    ensures { LinesAreThoseOfNames }
 {}
 
 /// There is a number, or none, for each package.

@@ -12,4 +12,4 @@ pub mod location;
 
 pub use crate::lines::PackageLines;
 pub use crate::located::{Lined, Located, locate, put_line};
-pub use crate::location::{lines_in, package_lines};
+pub use crate::location::{lines_in, lines_of_names, package_lines};

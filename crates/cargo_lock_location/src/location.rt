@@ -1,7 +1,7 @@
 //! In which line of its text each package of a lockfile begins.
 
-ghost use Rattle.std.specs.Prelude.{◌≡◌, ◌++◌, [], ◌∷◌, IfOk, None, OnOk, if◌then◌else◌, map};
-ghost use Rattle.std.specs.Prelude.{slice_get, string_bytes};
+ghost use Rattle.std.specs.Prelude.{◌≡◌, ◌++◌, [], ◌∷◌, IfOk, None, OnOk, Some, if◌then◌else◌, map};
+ghost use Rattle.std.specs.Prelude.{option_map, slice_get, string_bytes};
 ghost use Rattle.std.specs.List.{list_all};
 ghost use Rattle.std.specs.Str.Lines.{lines};
 ghost use Rattle.cargo_lock_location.specs.Location as spec;
@@ -30,28 +30,62 @@ pub fn package_lines(
     ensures { IfOk result (λ found. found.items
         ≡ spec.lines_of_packages (lines text.now) (map (λ p. p.name) packages.now)) }
 {
+    let names = names_of(alloc, packages)?;
+    lines_of_names(alloc, text, &names)
+}
+
+// The names of packages.
+fn names_of<'a>(alloc: Global, packages: &'a [Package]) -> Result<Vec<Option<&'a str>>, AllocError>
+    ensures { IfOk result (λ names. map (option_map (λ t. t.now)) names.items
+        ≡ map Some (map (λ p. p.name) packages.now)) }
+{
+    let mut names = Vec::with_capacity(alloc, packages.len())?;
+    for package in packages {
+        names.push(Some(package.name.as_str()))?;
+    }
+    Ok(names)
+}
+
+/// The number of the line in which each of the packages with these names begins in a text, from 1 on,
+/// as `package_lines` says it. A package without a name has none.
+///
+/// # Errors
+///
+/// Fails when out of memory.
+///
+/// ```
+/// let lines = lines_of_names(rt.alloc(), text, &[Some("log"), None])?;
+/// ```
+pub fn lines_of_names(
+    alloc: Global,
+    text: &str,
+    names: &[Option<&str>],
+) -> Result<Vec<Option<usize>>, AllocError>
+    ensures { IfOk result (λ found. found.items
+        ≡ spec.lines_of_names (lines text.now) (map (option_map (λ t. t.now)) names.now)) }
+{
     let lines = lines_in(alloc, text)?;
     let headers = headers_in(alloc, &lines)?;
-    let shown = headers.len() == packages.len() && are_clear(&lines);
-    numbers(alloc, packages, &lines, &headers, shown)
+    let shown = headers.len() == names.len() && are_clear(&lines);
+    numbers(alloc, names, &lines, &headers, shown)
 }
 
 // The number of the line of each package, if the lines show it.
 fn numbers(
     alloc: Global,
-    packages: &[Package],
+    names: &[Option<&str>],
     lines: &[&str],
     headers: &[usize],
     shown: bool,
 ) -> Result<Vec<Option<usize>>, AllocError>
     requires { headers.now ≡ spec.headers_from 0 (map (λ line. line.now) lines.now) }
     ensures { IfOk result (λ found. found.items ≡ spec.numbers_from 0 shown
-        (map (λ line. line.now) lines.now) (map (λ p. p.name) packages.now)) }
+        (map (λ line. line.now) lines.now) (map (option_map (λ t. t.now)) names.now)) }
 {
-    let mut found = Vec::with_capacity(alloc, packages.len())?;
-    for (place, package) in packages.iter().enumerate() {
+    let mut found = Vec::with_capacity(alloc, names.len())?;
+    for (place, name) in names.iter().enumerate() {
         let header = header_at(headers, place, shown);
-        found.push(line_of_header(alloc, lines, package.name.as_str(), header)?)?;
+        found.push(line_of_name(alloc, lines, *name, header)?)?;
     }
     Ok(found)
 }
@@ -173,6 +207,22 @@ fn header_at(headers: &[usize], place: usize, shown: bool) -> Option<usize>
         headers.get(place).copied()
     } else {
         None
+    }
+}
+
+// The number of the line at a place, if there are a name and a place, and the name stands below it.
+fn line_of_name(
+    alloc: Global,
+    lines: &[&str],
+    name: Option<&str>,
+    header: Option<usize>,
+) -> Result<Option<usize>, AllocError>
+    ensures { IfOk result (λ line. line ≡ spec.line_of_name (map (λ l. l.now) lines.now)
+        (option_map (λ t. t.now) name.entry) header) }
+{
+    match name {
+        Some(name) => line_of_header(alloc, lines, name, header),
+        None => Ok(None),
     }
 }
 

@@ -1,5 +1,5 @@
 -- What a merge returns by numbers of places is what it returns by places.
-use Rattle.std.proofs.Common.{◌≡◌, ◌≢◌, ◌∙◌, ◌↔◌, ◌<◌, ℕ, All, List, [], ◌∷◌, Option, Some, None, ap, arith, get_or, length, map, option_map, refl, subst, sym}
+use Rattle.std.proofs.Common.{◌≡◌, ◌≢◌, ◌∙◌, ◌↔◌, ℕ, List, [], ◌∷◌, Option, Some, ap, get_or, map, option_map, refl, subst, sym}
 use Rattle.std.specs.List.{AllPairs, Contains}
 use Rattle.std.proofs.lemmas.List.Elements.{Contains-get_or}
 use Rattle.std.proofs.lemmas.Option.{same_Some}
@@ -248,12 +248,12 @@ conflicts-if-any : (all : Lockfiles) (cs : List Conflict) → AreConflictingPack
 conflicts-if-any all [] (packages, remarks, h) = (packages, h.merge)
 conflicts-if-any all (c ∷ cs) h = conflicts-by-places all (c ∷ cs) h
 
-pub merges-by-places : (s : LockfileTriple) (m : LockfileMerge) → MergesTo s m → MergesByPlaces s m
-merges-by-places s (lockfiles.Merged lockfile text remarks) (h, same, back) =
+pub merges-by-places : (comments : List ℕ) (s : LockfileTriple) (m : LockfileMerge) → MergesTo comments s m → MergesByPlaces s m
+merges-by-places comments s (lockfiles.Merged lockfile text remarks) (h, same, back) =
     let (packages, found, refers) = h.packages in (
       packages,
       moved-by-places (packages_of s) packages remarks found,
       notices-by-places (packages_of s) found.places found.triple found.sides remarks.notices.items found.notices,
       refers,
     )
-merges-by-places s (lockfiles.InConflict conflicts) h = conflicts-if-any (packages_of s) conflicts.packages.items h.packages
+merges-by-places comments s (lockfiles.InConflict conflicts) h = conflicts-if-any (packages_of s) conflicts.packages.items h.packages

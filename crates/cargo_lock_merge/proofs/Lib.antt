@@ -9,3 +9,7 @@ pub mod MetadataMerging
 pub mod LockfileMerging
 pub mod ByPlaces
 pub mod Once
+pub mod OneSide
+pub mod SoundMerges
+pub mod DocumentDepth
+pub mod Documents

@@ -19,7 +19,6 @@ use Rattle.lists.proofs.Members.{in-map}
 use Rattle.cargo_lock_merge_core.proofs.Permuting.{map-permuted, pairs-permuted}
 use Rattle.cargo_lock_merge.specs.declared.moved.Moved.{Moved}
 use Rattle.cargo_lock_merge.specs.declared.moved.Named.{Named}
-use Rattle.cargo_lock_merge.specs.Lines.{moved_line, moved_lines}
 use Rattle.cargo_lock_merge.specs.Order.{moved_order}
 use Rattle.cargo_lock_merge.specs.Moved.{AreMarkedMoved, AreMovedReferences, AreNamedMoved, HasNamesake, IsShownAmong, moved_numbers}
 

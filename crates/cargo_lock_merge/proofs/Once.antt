@@ -1,5 +1,5 @@
 -- No dependency is twice in a merged package.
-use Rattle.std.proofs.Common.{◌≡◌, ◌≢◌, ◌∙◌, ◌<◌, ◌+◌, ◌++◌, inl, inr, ℕ, zero, All, List, [], ◌∷◌, Option, Some, None, ap, arith, get_or, length, map, option_map, refl, subst, sym}
+use Rattle.std.proofs.Common.{◌≡◌, ◌≢◌, ◌∙◌, ◌<◌, ◌+◌, ◌++◌, inl, inr, ℕ, zero, All, List, [], ◌∷◌, Option, Some, None, ap, arith, get_or, length, option_map, refl, subst, sym}
 use Rattle.std.specs.List.{AllPairs, AllZip}
 use Rattle.std.specs.List.Sorted.{IsPermutation, IsStrictlyIncreasing}
 use Rattle.std.proofs.lemmas.List.Elements.{All-cons, All-tail}

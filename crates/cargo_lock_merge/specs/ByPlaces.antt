@@ -1,5 +1,5 @@
 -- What a merge returns, by places alone: no definition here speaks of numbers of places.
-use Rattle.std.specs.Prelude.{◌≡◌, ◌≢◌, ◌↔◌, All, List, [], ◌∷◌, Option, Some, None, map}
+use Rattle.std.specs.Prelude.{◌≡◌, ◌≢◌, ◌↔◌, ℕ, All, List, [], ◌∷◌, Option, Some, map}
 use Rattle.std.specs.Prelude.{option_map}
 use Rattle.std.specs.List.{AllPairs, AllZip, Contains}
 use Rattle.cargo_lock_parts.specs.Identity.{PackageData}
@@ -117,4 +117,5 @@ OutcomesAreByPlaces = (all : Lockfiles) (o : Outcome) → FindsMerge all o → F
 
 -- what `merge_lockfiles` returns is so by places
 abbrev pub MergesAreByPlaces : Type 0
-MergesAreByPlaces = (s : LockfileTriple) (m : LockfileMerge) → MergesTo s m → MergesByPlaces s m
+MergesAreByPlaces = (comments : List ℕ) (s : LockfileTriple) (m : LockfileMerge)
+    → MergesTo comments s m → MergesByPlaces s m

@@ -2,6 +2,7 @@ pub mod Order
 pub mod Moved
 pub mod Words
 pub mod Lines
+pub mod Comments
 pub mod Conflict
 pub mod Notice
 pub mod Outcome
@@ -11,5 +12,8 @@ pub mod OwnMetadata
 pub mod Referring
 pub mod Spelling
 pub mod MergedLockfiles
+pub mod Inputs
 pub mod ByPlaces
 pub mod Once
+pub mod Headline
+pub mod Document

@@ -273,10 +273,14 @@ abbrev pub metadata_conflict_lines : List (List ℕ × MetadataConflict) → Lis
 metadata_conflict_lines = flat_map (λ e. metadata_line e.0 e.1 ++ newline ∷ [])
 
 -- the line of a format that does not keep the merge
+abbrev pub format_line : ResolveVersion → List ℕ
+format_line format = codes "conflict: format V" ++ (digits 10 false (number_of format)
+    ++ codes " does not keep the merge")
+
+-- the same with its newline, if there is such a format
 abbrev pub format_text : Option ResolveVersion → List ℕ
 format_text None = []
-format_text (Some format) = codes "conflict: format V" ++ (digits 10 false (number_of format)
-    ++ codes " does not keep the merge\n")
+format_text (Some format) = format_line format ++ newline ∷ []
 
 -- the lines of all conflicts: of packages, of the metadata in the order of the keys, and of the
 -- format

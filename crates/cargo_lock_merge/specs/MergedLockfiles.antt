@@ -9,6 +9,7 @@ use Rattle.cargo_lock.specs.CargoChecksums.{with_cargo_checksums_in}
 use Rattle.cargo_lock_encoding.specs.Lockfiles.{LockfileData}
 use Rattle.cargo_lock_encoding.specs.Means.{TextMeans}
 use Rattle.cargo_lock_encoding.specs.Survives.{HasSamePackages}
+use Rattle.cargo_lock_layout.specs.Lines.{cargo_text}
 use Rattle.cargo_lock_lines.specs.Layout.{join_lines}
 use Rattle.cargo_lock_encoding.specs.Text.{lines_of}
 use Rattle.cargo_lock_merge.specs.Formats.{IsLaterFormat}
@@ -112,14 +113,15 @@ abbrev pub TextIsOf : LockfileData → List ℕ → Type 0
 TextIsOf l text = (x : LockfileData) × TextMeans text x
     × IsSameLockfile (with_cargo_checksums_in x) l
 
--- the text of the lockfile
-abbrev pub text_of_lockfile : LockfileData → List ℕ
-text_of_lockfile l = join_lines (lines_of l)
+-- the text of the lockfile as Cargo writes it, with these comments at the top
+abbrev pub text_of_lockfile : List ℕ → LockfileData → List ℕ
+text_of_lockfile comments l = cargo_text comments (join_lines (lines_of l))
 
--- the merge has this format, and its text does not read back as it
-abbrev pub IsMergeLostIn : LockfileTriple → ResolveVersion → Type 0
-IsMergeLostIn s format = (l : LockfileData) × (remarks : Remarks) × IsMergedLockfile s l remarks
-    × (l.version ≡ format) × ¬ TextIsOf l (text_of_lockfile l)
+-- the merge has this format, and its text with these comments does not read back as it
+abbrev pub IsMergeLostIn : List ℕ → LockfileTriple → ResolveVersion → Type 0
+IsMergeLostIn comments s format = (l : LockfileData) × (remarks : Remarks)
+    × IsMergedLockfile s l remarks × (l.version ≡ format)
+    × ¬ TextIsOf l (text_of_lockfile comments l)
 
 -- these are the conflicts of the packages, or there are none, and the packages have a merge
 abbrev pub AreConflictingPackages : Lockfiles → List Conflict → Type 0
@@ -128,9 +130,9 @@ AreConflictingPackages all [] = (packages : List PackageData) × (remarks : Rema
 AreConflictingPackages all (c ∷ cs) = AreInConflictAbout all (c ∷ cs)
 
 -- the format does not keep the merge, if this is one
-abbrev pub IsLostInIf : LockfileTriple → Option ResolveVersion → Type 0
-IsLostInIf s None = Unit {0}
-IsLostInIf s (Some format) = IsMergeLostIn s format
+abbrev pub IsLostInIf : List ℕ → LockfileTriple → Option ResolveVersion → Type 0
+IsLostInIf comments s None = Unit {0}
+IsLostInIf comments s (Some format) = IsMergeLostIn comments s format
 
 -- the sides are in conflict about something
 abbrev pub HasConflicts : LockfileConflicts → Type 0
@@ -138,19 +140,21 @@ HasConflicts c = (c.packages.items ≢ [])
     ⊎ (((key : List ℕ) × IsSome (value_at_key c.metadata key)) ⊎ IsSome c.format)
 
 -- The conflicts are exactly those of the sides, and there is one.
-pub record AreLockfileConflicts (s : LockfileTriple) (c : LockfileConflicts) : Type 0 where
+pub record AreLockfileConflicts (comments : List ℕ) (s : LockfileTriple) (c : LockfileConflicts)
+    : Type 0 where
   pub roots : HaveNoRoots s
   pub packages : AreConflictingPackages (packages_of s) c.packages.items
   pub metadata : AreMetadataConflicts s.base s.ours s.theirs c.metadata
-  pub format : IsLostInIf s c.format
+  pub format : IsLostInIf comments s c.format
   pub some : HasConflicts c
 
--- the lockfile is the merge, and this is its text, which reads back as it; or the sides are in
--- conflict
-abbrev pub MergesTo : LockfileTriple → LockfileMerge → Type 0
-MergesTo s (Merged lockfile text remarks) = IsMergedLockfile s lockfile remarks
-    × (string_bytes text ≡ text_of_lockfile lockfile) × TextIsOf lockfile (string_bytes text)
-MergesTo s (InConflict conflicts) = AreLockfileConflicts s conflicts
+-- the lockfile is the merge, and this is its text with these comments, which reads back as it; or the
+-- sides are in conflict
+abbrev pub MergesTo : List ℕ → LockfileTriple → LockfileMerge → Type 0
+MergesTo comments s (Merged lockfile text remarks) = IsMergedLockfile s lockfile remarks
+    × (string_bytes text ≡ text_of_lockfile comments lockfile)
+    × TextIsOf lockfile (string_bytes text)
+MergesTo comments s (InConflict conflicts) = AreLockfileConflicts comments s conflicts
 
 -- ---- as the program has them
 

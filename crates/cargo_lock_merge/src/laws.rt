@@ -1,8 +1,12 @@
 //! Laws of merges and of their lines, each the contract of a function without a body.
 
 ghost use Rattle.cargo_lock_merge.specs.ByPlaces.{MergesAreByPlaces, OutcomesAreByPlaces};
+ghost use Rattle.cargo_lock_merge.specs.Headline.{MergeHeadline, MergesAreSound, MergesReadBack};
+ghost use Rattle.cargo_lock_merge.specs.Headline.{OneSideIsMerged};
 ghost use Rattle.cargo_lock_merge.specs.Lines.{ConflictsAreLines, MovedAreLines, NoticesAreLines};
 ghost use Rattle.cargo_lock_merge.specs.Lines.{RefusalsAreLines};
+
+use cargo_lock_merge_core::laws as core;
 
 /// Each conflict is exactly one line, whatever its names, versions, sources and checksums hold.
 pub fn conflicts_are_lines()
@@ -34,3 +38,40 @@ pub fn outcomes_are_by_places()
 pub fn merges_are_by_places()
     ensures { MergesAreByPlaces }
 {}
+
+/// Where one side has at a place what the base has there, a merge has what the other side has.
+pub fn one_side_is_merged()
+    ensures { OneSideIsMerged }
+{}
+
+/// A merge is sound: each dependency has its package, no package is an orphan, and each git source is
+/// at one commit.
+pub fn merges_are_sound()
+    ensures { MergesAreSound }
+{}
+
+/// The text of a merge reads back as it.
+pub fn merges_read_back()
+    ensures { MergesReadBack }
+{}
+
+/// What a merge promises: what one side alone changed is merged; there is at most one merge, and the
+/// sides may be exchanged; all in it is of a side; it is sound, and its text reads back; conflicts are
+/// only where there is no merge.
+pub fn merge_headline()
+    ensures { MergeHeadline }
+{
+    one_side_is_merged();
+    core::merge_of_lists_with_base();
+    core::merge_of_lists_with_itself();
+    core::merge_of_lists_is_unique();
+    core::merge_of_lists_is_symmetric();
+    core::conflicts_are_symmetric();
+    core::packages_are_of_sides();
+    core::dependencies_are_of_sides();
+    core::checksums_are_listed();
+    merges_are_sound();
+    merges_read_back();
+    core::merge_excludes_conflicts();
+    merges_are_by_places();
+}

@@ -1,9 +1,13 @@
-//! The merge of three lockfiles by packages, its conflicts and what it reports, each as a line.
+//! The merge of three lockfiles by packages, its conflicts and what it reports, each as a line, and
+//! as a document of JSON.
 #![tactic(auto)]
 
 mod assemble;
+pub mod comments;
 pub mod conflict;
+pub mod document;
 mod format;
+pub mod inputs;
 pub mod laws;
 mod lines;
 pub mod lockfiles;
@@ -18,6 +22,9 @@ pub mod refused;
 pub mod spelling;
 mod words;
 
+pub use crate::comments::merge_comments;
+pub use crate::document::{conflicts_json, merged_json, refused_json};
+pub use crate::inputs::{MergeInput, MergeInputs};
 pub use crate::lockfiles::merge_lockfiles;
 pub use crate::outcome::merge;
 pub use crate::spelling::with_cargo_spelling;

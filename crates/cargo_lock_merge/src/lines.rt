@@ -86,18 +86,35 @@ fn write_format<W: fmt::Write>(
 {
     match format {
         Some(version) => {
-            let number = u32::from(version);
-            write!(f, "conflict: format V{number} does not keep the merge\n")
+            let line = FormatLine(version);
+            write!(f, "{line}\n")
         }
         None => Ok(()),
     }
 }
 
+// The line of a format that does not keep the merge.
+#[derive(Clone, Copy)]
+pub(crate) struct FormatLine(pub(crate) ResolveVersion);
+
+impl fmt::Display for FormatLine {
+    ghost use Rattle.std.specs.Prelude.{Some};
+    ghost use Rattle.cargo_lock_merge.specs.Lines.{format_line};
+
+    ghost output = { λ line. Some (format_line line.0) };
+
+    fn fmt<W: fmt::Write>(&self, f: &mut fmt::Formatter<W>) -> fmt::Result {
+        let FormatLine(version) = *self;
+        let number = u32::from(version);
+        write!(f, "conflict: format V{number} does not keep the merge")
+    }
+}
+
 // The line of a conflict about the metadata.
 #[derive(Clone, Copy)]
-struct MetadataLine<'a> {
-    key: &'a MetadataKey,
-    conflict: &'a MetadataConflict,
+pub(crate) struct MetadataLine<'a> {
+    pub(crate) key: &'a MetadataKey,
+    pub(crate) conflict: &'a MetadataConflict,
 }
 
 impl fmt::Display for MetadataLine<'_> {

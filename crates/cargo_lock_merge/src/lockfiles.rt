@@ -1,6 +1,6 @@
 //! The merge of lockfiles.
 
-ghost use Rattle.std.specs.Prelude.{◌≡◌, IfErr, IfOk, IsOkUnless, OnOk};
+ghost use Rattle.std.specs.Prelude.{◌≡◌, IfErr, IfOk, IsOkUnless, OnOk, string_bytes};
 ghost use Rattle.std.specs.Bool.{Decides};
 ghost use Rattle.cargo_lock.specs.CargoChecksums.{with_cargo_checksums_in};
 ghost use Rattle.cargo_lock_merge.specs.ByPlaces.{MergesByPlaces};
@@ -9,7 +9,7 @@ ghost use Rattle.cargo_lock_merge.specs.MergedLockfiles.{IsMergedLockfile, IsMet
 ghost use Rattle.cargo_lock_merge.specs.MergedLockfiles.{IsRestOf, IsSameLockfile, IsUnread};
 ghost use Rattle.cargo_lock_merge.specs.MergedLockfiles.{LockfileTriple, MergesTo, TextIsOf};
 ghost use Rattle.cargo_lock_merge.specs.MergedLockfiles.{is_same_but_metadata, joined_lockfile};
-ghost use Rattle.cargo_lock_merge.specs.MergedLockfiles.{packages_of, triple_of};
+ghost use Rattle.cargo_lock_merge.specs.MergedLockfiles.{packages_of, text_of_lockfile, triple_of};
 ghost use Rattle.cargo_lock_merge.specs.Outcome.{FindsMerge, IsMergeFound};
 ghost use Rattle.cargo_lock_parts.specs.declared.error.Error.TheVariants.{Memory};
 
@@ -23,6 +23,7 @@ use crate::outcome::{Outcome, merge};
 use crate::patches::merge_patches;
 use crate::referring::refer_as_cargo;
 use cargo_lock::{Error, Lockfile, MetadataKey, ResolveVersion};
+use cargo_lock_layout::cargo_text;
 use cargo_lock_merge_core::refusal::Refusal;
 use cargo_lock_merge_core::triple::{Role, Stop};
 use cargo_lock_parts::error;
@@ -93,7 +94,8 @@ struct Rest {
 /// sides have it, or if one side has it and the base has not. The metadata besides the checksums of
 /// packages are those that the three agree on, key by key. If the text of the merge does not read
 /// back as the merge, that is a conflict too: no text has both the replacement and the dependencies
-/// of a package.
+/// of a package. The text is as Cargo writes it, with `comments` below its own two: see
+/// `merge_comments`.
 ///
 /// The checksums of packages in V1 are those in the packages, so call `with_cargo_checksums` for
 /// each lockfile first. Sources are compared by their texts, so call `with_cargo_spelling` too.
@@ -108,15 +110,16 @@ pub fn merge_lockfiles<'a>(
     base: &'a Lockfile,
     ours: &'a Lockfile,
     theirs: &'a Lockfile,
+    comments: &str,
 ) -> Result<LockfileMerge<'a>, MergeError<'a>>
-    ensures ok { IfOk result (MergesTo (triple_of base.now ours.now theirs.now)) }
+    ensures ok { IfOk result (MergesTo comments.now (triple_of base.now ours.now theirs.now)) }
     ensures err { IfErr result (IsMergeError (triple_of base.now ours.now theirs.now)) }
     ensures by_places { IfOk result (MergesByPlaces (triple_of base.now ours.now theirs.now)) }
 {
     refuse_roots(base, ours, theirs)?;
     let outcome = merged_packages(alloc, base, ours, theirs)?;
     let rest = rest_of(alloc, base, ours, theirs)?;
-    Ok(joined(alloc, outcome, rest)?)
+    Ok(joined(alloc, outcome, rest, comments)?)
 }
 
 // Refuses a lockfile with a root apart from its packages.
@@ -201,13 +204,21 @@ fn metadata_of(
 }
 
 // The lockfile of these parts, or the conflicts.
-fn joined<'a>(alloc: Global, outcome: Outcome<'a>, rest: Rest) -> error::Result<LockfileMerge<'a>>
+fn joined<'a>(
+    alloc: Global,
+    outcome: Outcome<'a>,
+    rest: Rest,
+    comments: &str,
+) -> error::Result<LockfileMerge<'a>>
     ensures ok { IfOk result (λ merge. (s : LockfileTriple) → HaveNoRoots s
-        → FindsMerge (packages_of s) outcome.entry → IsRestOf s rest → MergesTo s merge) }
+        → FindsMerge (packages_of s) outcome.entry → IsRestOf s rest
+        → MergesTo comments.now s merge) }
     ensures err { IsOkUnless result Memory }
 {
     match outcome {
-        Outcome::Merged(packages, remarks) => joined_packages(alloc, packages, remarks, rest),
+        Outcome::Merged(packages, remarks) => {
+            joined_packages(alloc, packages, remarks, rest, comments)
+        }
         Outcome::Conflicts(packages) => Ok(LockfileMerge::InConflict(LockfileConflicts {
             packages,
             metadata: rest.metadata.conflicts,
@@ -222,15 +233,16 @@ fn joined_packages<'a>(
     packages: Vec<Package>,
     remarks: Remarks<'a>,
     rest: Rest,
+    comments: &str,
 ) -> error::Result<LockfileMerge<'a>>
     ensures ok { IfOk result (λ merge. (s : LockfileTriple) → HaveNoRoots s
         → IsMergeFound (packages_of s) packages.items remarks.entry → IsRestOf s rest
-        → MergesTo s merge) }
+        → MergesTo comments.now s merge) }
     ensures err { IsOkUnless result Memory }
 {
     if rest.metadata.conflicts.is_empty() {
         let packages = refer_as_cargo(alloc, rest.version, &packages)?;
-        with_text(alloc, lockfile_of(packages, rest), remarks)
+        with_text(alloc, lockfile_of(packages, rest), remarks, comments)
     } else {
         Ok(LockfileMerge::InConflict(LockfileConflicts {
             packages: Vec::new(alloc),
@@ -263,12 +275,13 @@ fn with_text<'a>(
     alloc: Global,
     lockfile: Lockfile,
     remarks: Remarks<'a>,
+    comments: &str,
 ) -> error::Result<LockfileMerge<'a>>
     ensures ok { IfOk result (λ merge. (s : LockfileTriple)
-        → IsMergedLockfile s lockfile remarks.entry → MergesTo s merge) }
+        → IsMergedLockfile s lockfile remarks.entry → MergesTo comments.now s merge) }
     ensures err { IsOkUnless result Memory }
 {
-    let text = lockfile.to_string(alloc)?;
+    let text = text_of(alloc, &lockfile, comments)?;
     if reads_back(alloc, &lockfile, text.as_str())? {
         Ok(LockfileMerge::Merged(lockfile, text, remarks))
     } else {
@@ -278,6 +291,17 @@ fn with_text<'a>(
             format: Some(lockfile.version),
         }))
     }
+}
+
+// The text of the lockfile as Cargo writes it, with these comments at the top.
+fn text_of(alloc: Global, lockfile: &Lockfile, comments: &str) -> error::Result<String>
+    ensures ok { IfOk result
+        (λ text. string_bytes text ≡ text_of_lockfile comments.now lockfile.now) }
+    ensures err { IsOkUnless result Memory }
+{
+    let printed = lockfile.to_string(alloc)?;
+    let text = cargo_text(alloc, comments, printed.as_str())?;
+    Ok(text)
 }
 
 // Whether the text reads back as the lockfile, with the checksums that Cargo reads.

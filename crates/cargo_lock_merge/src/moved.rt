@@ -29,7 +29,7 @@ use std::fmt;
 /// neither side has this dependency.
 #[derive(Clone, Copy)]
 pub struct Moved<'a> {
-    found: Found<'a>,
+    pub(crate) found: Found<'a>,
     with_sources: bool,
 }
 

@@ -140,7 +140,7 @@ fn sides_of_loss(base: &Package, ours: Option<&Package>, theirs: Option<&Package
 }
 
 // Whether the package is there, has the identity of another one, and no checksum.
-fn lacks_checksum(base: &Package, side: Option<&Package>) -> bool
+pub(crate) fn lacks_checksum(base: &Package, side: Option<&Package>) -> bool
     ensures { result ≡ spec.lacks_checksum base.now side.entry }
 {
     match side {

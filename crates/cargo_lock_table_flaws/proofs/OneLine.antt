@@ -82,7 +82,7 @@ fault-prints Replacement = literal (codes ", which is named without a version") 
 line-prints : (f : TableFindingData) → Prints (table_finding_line f)
 line-prints (Unread o k w) =
     join (word-prints k) (words (codes ": ") refl (join (owner-prints o) (words (codes ": ") refl (why-prints k w))))
-line-prints (Unresolved p f r) =
+line-prints (Unresolved place p f r) =
     words (codes "reference: ") refl (join (encoded-prints p) (join (verb-prints r) (join (shown-prints Plain f.name) (fault-prints r))))
 
 pub each-table-finding-is-one-line : EachTableFindingIsOneLine

@@ -1,5 +1,5 @@
 -- Values with a format are those of a lockfile exactly if no reference of them is told.
-use Rattle.std.proofs.Common.{◌≡◌, ◌∙◌, ℕ, List, [], map, Option, Some, None, is_some, sym, ap, subst, inl, inr}
+use Rattle.std.proofs.Common.{◌≡◌, ◌∙◌, ◌+◌, ℕ, List, [], ◌∷◌, map, Option, Some, None, is_some, sym, ap, subst, inl, inr}
 use Rattle.std.proofs.lemmas.Option.{same_Some}
 use Rattle.toml.specs.Data.{Members}
 use Rattle.cargo_lock_parts.specs.Identity.{Identity}
@@ -12,6 +12,8 @@ use Rattle.cargo_lock_parts.specs.Optional.{map_all, map_some}
 use Rattle.cargo_lock_references.specs.Records.{EncodedPackage, encoded_identity}
 use Rattle.cargo_lock_references.specs.Reference.{Reference}
 use Rattle.cargo_lock_references.specs.ResolutionSearch.{resolution_of}
+use Rattle.cargo_lock_table_flaws.specs.declared.finding.Place.{Place}
+use Rattle.cargo_lock_table_flaws.specs.declared.finding.Place.TheVariants.{Listed, Root}
 use Rattle.cargo_lock_table_flaws.specs.declared.finding.Role.{Role}
 use Rattle.cargo_lock_table_flaws.specs.declared.finding.Role.TheVariants.{FullDependency, Replacement}
 use Rattle.cargo_lock_table_flaws.specs.Laws.{LockfileIfResolved, NoReportOfLockfile}
@@ -20,26 +22,36 @@ use Rattle.cargo_lock_table_flaws.specs.Unresolved.{role_in, unless_resolved, un
 use Rattle.cargo_lock_table_flaws.proofs.Told.{Tells, accepted, each-tells, made, mapped, next, refused, some-tells}
 use Rattle.cargo_lock_table_flaws.proofs.Tables.{none_unread_if_read}
 
-resolved-tells : (p : EncodedPackage) (role : Role) (f : Reference) (r : Option Identity) → Tells r (unless_resolved p role f r)
-resolved-tells p role f None = refused _ []
-resolved-tells p role f (Some i) = accepted
+resolved-tells : (place : Place) (p : EncodedPackage) (role : Role) (f : Reference) (r : Option Identity) → Tells r (unless_resolved place p role f r)
+resolved-tells place p role f None = refused _ []
+resolved-tells place p role f (Some i) = accepted
 
-package-tells : (list : List Identity) (role : Role) (checksum : Option (List ℕ)) (p : EncodedPackage)
-    → Tells (package_of list checksum p) (unresolved_of list role p)
-package-tells list role checksum p =
-    next (map_all (λ f. resolution_of f list) p.dependencies) _ (unresolved_dependencies list role p p.dependencies) (unresolved_replacement p)
-    (each-tells (λ f. resolution_of f list) (unresolved_in list p role) (λ f. resolved-tells p role f (resolution_of f list)) p.dependencies)
-    (λ dependencies. made (map_some (λ f. resolution_of f []) p.replace) _ (unresolved_replacement p)
-    (some-tells (λ f. resolution_of f []) (unresolved_in [] p Replacement) (λ f. resolved-tells p Replacement f (resolution_of f [])) p.replace))
+package-tells : (list : List Identity) (role : Role) (checksum : Option (List ℕ)) (place : Place) (p : EncodedPackage)
+    → Tells (package_of list checksum p) (unresolved_of list role place p)
+package-tells list role checksum place p =
+    next (map_all (λ f. resolution_of f list) p.dependencies) _ (unresolved_dependencies list role place p p.dependencies) (unresolved_replacement place p)
+    (each-tells (λ f. resolution_of f list) (unresolved_in list place p role) (λ f. resolved-tells place p role f (resolution_of f list)) p.dependencies)
+    (λ dependencies. made (map_some (λ f. resolution_of f []) p.replace) _ (unresolved_replacement place p)
+    (some-tells (λ f. resolution_of f []) (unresolved_in [] place p Replacement) (λ f. resolved-tells place p Replacement f (resolution_of f [])) p.replace))
+
+-- the packages of a list, which are numbered from this number on
+listed-tell : (list : List Identity) (role : Role) (checksum : EncodedPackage → Option (List ℕ)) (n : ℕ) (ps : List EncodedPackage)
+    → Tells (map_all (λ p. package_of list (checksum p) p) ps) (unresolved_of_each list role n ps)
+listed-tell list role checksum n [] = accepted
+listed-tell list role checksum n (p ∷ ps) =
+    let rest = map_all (λ p. package_of list (checksum p) p) ps in
+    next (package_of list (checksum p) p) _ (unresolved_of list role (Listed n) p) (unresolved_of_each list role (n + 1) ps)
+    (package-tells list role (checksum p) (Listed n) p)
+    (λ y. mapped rest (λ ys. y ∷ ys) (unresolved_of_each list role (n + 1) ps) (listed-tell list role checksum (n + 1) ps))
 
 values-tell : (e : EncodedData) (format : ResolveVersion) → format_of e ≡ Some format → Tells (resolved_values e) (unresolved_references format e)
 unfolding unresolved_references
 values-tell e format is =
     let list : List Identity = reading_list format (map encoded_identity e.packages) in
-    rw is (next (all_packages format e.metadata e.packages) _ (unresolved_of_each list (role_in format) e.packages) (unresolved_of_root e.root)
-    (each-tells (listed_package format list e.metadata) (unresolved_of list (role_in format)) (λ p. package-tells list (role_in format) (encoded_checksum format e.metadata p) p) e.packages)
+    rw is (next (all_packages format e.metadata e.packages) _ (unresolved_of_each list (role_in format) 1 e.packages) (unresolved_of_root e.root)
+    (listed-tell list (role_in format) (encoded_checksum format e.metadata) 1 e.packages)
     (λ packages. made (map_some root_package e.root) _ (unresolved_of_root e.root)
-    (some-tells root_package (unresolved_of [] FullDependency) (λ p. package-tells [] FullDependency p.checksum p) e.root)))
+    (some-tells root_package (unresolved_of [] FullDependency Root) (λ p. package-tells [] FullDependency p.checksum Root p) e.root)))
 
 pub lockfile_if_resolved : LockfileIfResolved
 unfolding lockfile_of

@@ -42,10 +42,10 @@ pub record OwnerData : Type 0 where
   pub version : Option (List ℕ)
 
 -- one thing that keeps a table from being read: what stands under a key of a package, or a
--- reference of a package
+-- reference of the package at a place
 pub data TableFindingData : Type 0 where
   Unread : OwnerData → Key → WrittenData → TableFindingData
-  Unresolved : EncodedPackage → Reference → Role → TableFindingData
+  Unresolved : Place → EncodedPackage → Reference → Role → TableFindingData
 
 -- ---- what references refer to
 
@@ -65,7 +65,8 @@ owner_of owner = record {
 abbrev pub table_finding_of : TableFinding → TableFindingData
 table_finding_of (declared.Unread owner key written) =
     Unread (owner_of owner) key (written_of written)
-table_finding_of (declared.Unresolved p reference role) = Unresolved p.now reference.now role
+table_finding_of (declared.Unresolved place p reference role) =
+    Unresolved place p.now reference.now role
 
 -- ---- lines
 
@@ -158,7 +159,7 @@ unresolved_line p f role = codes "reference: " ++ (encoded_shown p
 -- the line of a finding
 abbrev pub table_finding_line : TableFindingData → List ℕ
 table_finding_line (Unread owner key written) = unread_line owner key written
-table_finding_line (Unresolved p f role) = unresolved_line p f role
+table_finding_line (Unresolved place p f role) = unresolved_line p f role
 
 -- the line of each finding, with its newline
 abbrev pub table_findings_text : List TableFindingData → List ℕ

@@ -1,6 +1,7 @@
 pub mod Finding
 pub mod Unread
 pub mod Unresolved
+pub mod Names
 pub mod Format
 pub mod Report
 pub mod Document

@@ -7,59 +7,96 @@ ghost use Rattle.cargo_lock_display.specs.PackageJson.{identity_json};
 ghost use Rattle.cargo_lock_parts.specs.Checksum.{digest_of};
 ghost use Rattle.cargo_lock_table_flaws.specs.Document as spec;
 ghost use Rattle.cargo_lock_table_flaws.specs.Document.{encoded_json, finding_package_json};
-ghost use Rattle.cargo_lock_table_flaws.specs.Document.{table_finding_kind};
+ghost use Rattle.cargo_lock_table_flaws.specs.Document.{line_at_place, place_of};
+ghost use Rattle.cargo_lock_table_flaws.specs.Document.{table_finding_json, table_finding_kind};
 ghost use Rattle.cargo_lock_table_flaws.specs.Finding.{table_finding_of};
 ghost use Rattle.printing.specs.Json.{Adds, IsJsonText};
 
-use crate::finding::TableFinding;
+use crate::finding::{Place, TableFinding};
 use crate::report::TableReport;
 use cargo_lock_display::{File, begin_identity, list_document, put_digest_or_null, put_origin};
+use cargo_lock_location::{Lined, PackageLines, locate, put_line};
 use cargo_lock_parts::dependency::Dependency;
 use cargo_lock_parts::package::Checksum;
 use cargo_lock_references::EncodablePackage;
 use cargo_lock_references::identified::identity;
-use printing::{JsonWriter, ToJson};
+use printing::JsonWriter;
 use std::alloc::{AllocError, Global};
 
 /// The document of what keeps a table from being read as a lockfile, in one line:
-/// `{"schema":"cargo-lock-check/1","path":"Cargo.lock","format":4,"findings":[..]}`. Fails when out
-/// of memory.
+/// `{"schema":"cargo-lock-check/1","path":"Cargo.lock","format":4,"findings":[..]}`. The findings are
+/// at these lines of the packages that the table lists. Fails when out of memory.
 ///
 /// ```
-/// let text = table_findings_json(rt.alloc(), &file, report)?;
+/// let text = table_findings_json(rt.alloc(), &file, report, lines)?;
 /// ```
 pub fn table_findings_json(
     alloc: Global,
     file: &File<'_>,
     report: &TableReport<'_>,
+    lines: &PackageLines<'_>,
 ) -> Result<String, AllocError>
     ensures { IfOk result (λ text. IsJsonText
-        (spec.table_findings_json file.now report.now.findings) (string_bytes text)) }
+        (spec.table_findings_json file.now lines.now report.now.findings) (string_bytes text)) }
 {
-    list_document(
-        alloc,
-        "cargo-lock-check/1",
-        file,
-        "findings",
-        report.findings.as_slice(),
-    )
+    let located = locate(alloc, report.findings.as_slice(), lines)?;
+    list_document(alloc, "cargo-lock-check/1", file, "findings", &located)
 }
 
-impl ToJson for TableFinding<'_> {
+impl Lined for TableFinding<'_> {
+    ghost use Rattle.cargo_lock_table_flaws.specs.Document.{line_of_table_finding};
     ghost use Rattle.cargo_lock_table_flaws.specs.Document.{table_finding_json};
     ghost use Rattle.cargo_lock_table_flaws.specs.Finding.{table_finding_of};
 
-    ghost json = { λ finding. table_finding_json (table_finding_of finding) };
+    ghost line_in = { λ lines finding. line_of_table_finding lines (table_finding_of finding) };
 
-    fn write_json(&self, out: &mut JsonWriter) -> Result<(), AllocError> {
-        out.begin_object()?;
-        out.string_member("kind", kind(self))?;
-        out.displayed_member("message", self)?;
-        out.null_member("line")?;
-        put_owner(out, self)?;
-        out.null_member("other")?;
-        out.end_object()
+    ghost json_at = { λ line finding. table_finding_json line (table_finding_of finding) };
+
+    fn line(&self, lines: &PackageLines<'_>) -> Option<usize> {
+        line_at_place(lines, place_of(self))
     }
+
+    fn write_json_at(&self, line: Option<usize>, out: &mut JsonWriter) -> Result<(), AllocError> {
+        write_finding(self, line, out)
+    }
+}
+
+// Where the table of the package of a finding is.
+fn place_of(finding: &TableFinding<'_>) -> Place
+    ensures { result ≡ place_of (table_finding_of finding.now) }
+{
+    match *finding {
+        TableFinding::Unread(owner, _, _) => owner.place,
+        TableFinding::Unresolved(place, _, _, _) => place,
+    }
+}
+
+// The number of the line of the package at a place, where it is known.
+fn line_at_place(lines: &PackageLines<'_>, place: Place) -> Option<usize>
+    ensures { result ≡ line_at_place lines.now.lines place }
+{
+    match place {
+        Place::Listed(number) => lines.at(number.saturating_sub(1)),
+        Place::Root | Place::Unused(_) => None,
+    }
+}
+
+// Writes a finding at a line.
+fn write_finding(
+    finding: &TableFinding<'_>,
+    line: Option<usize>,
+    out: &mut JsonWriter,
+) -> Result<(), AllocError>
+    ensures { Adds result out.old out.new
+        (json_tokens (table_finding_json line (table_finding_of finding.now))) }
+{
+    out.begin_object()?;
+    out.string_member("kind", kind(finding))?;
+    out.displayed_member("message", finding)?;
+    put_line(out, line)?;
+    put_owner(out, finding)?;
+    out.null_member("other")?;
+    out.end_object()
 }
 
 // The kind of a finding, as the document has it.
@@ -68,7 +105,7 @@ pub(crate) fn kind(finding: &TableFinding<'_>) -> &'static str
 {
     match finding {
         TableFinding::Unread(_, _, _) => "unread",
-        TableFinding::Unresolved(_, _, _) => "reference",
+        TableFinding::Unresolved(_, _, _, _) => "reference",
     }
 }
 
@@ -80,7 +117,7 @@ fn put_owner(out: &mut JsonWriter, finding: &TableFinding<'_>) -> Result<(), All
     out.key("package")?;
     match *finding {
         TableFinding::Unread(_, _, _) => out.null(),
-        TableFinding::Unresolved(one, _, _) => put_encoded(out, one),
+        TableFinding::Unresolved(_, one, _, _) => put_encoded(out, one),
     }
 }
 

@@ -98,9 +98,9 @@ pub enum TableFinding<'a> {
     /// `checksum: foo 1.0.0: expected 64 hex digits, got 2`.
     Unread(Owner<'a>, Key, Written<'a>),
 
-    /// A reference resolves to nothing, as
+    /// A reference of the package at a place resolves to nothing, as
     /// `reference: app 0.1.0 depends on cc, which no package is`.
-    Unresolved(&'a EncodablePackage, &'a EncodableDependency, Role),
+    Unresolved(Place, &'a EncodablePackage, &'a EncodableDependency, Role),
 }
 
 impl fmt::Display for TableFinding<'_> {
@@ -112,7 +112,7 @@ impl fmt::Display for TableFinding<'_> {
     fn fmt<W: fmt::Write>(&self, f: &mut fmt::Formatter<W>) -> fmt::Result {
         match *self {
             TableFinding::Unread(owner, key, written) => write_unread(owner, key, written, f),
-            TableFinding::Unresolved(one, reference, role) => {
+            TableFinding::Unresolved(_, one, reference, role) => {
                 write_unresolved(one, reference, role, f)
             }
         }

@@ -231,8 +231,8 @@ fn owner_at<'a>(place: Place, table: &'a Table) -> Owner<'a>
     }
 }
 
-// The text under a key, if there is one.
-fn text_under<'a>(table: &'a Table, key: &str) -> Option<&'a str>
+/// The text under a key, if there is one.
+pub(crate) fn text_under<'a>(table: &'a Table, key: &str) -> Option<&'a str>
     ensures { option_map (λ t. t.now) result ≡ text_under key.now (table_view table.now) }
 {
     match value_at(table, key) {

@@ -12,7 +12,7 @@ ghost use Rattle.cargo_lock_table_flaws.specs.Unresolved.{unresolved_of, unresol
 ghost use Rattle.cargo_lock_table_flaws.specs.Unresolved.{unresolved_of_root, role_in};
 ghost use Rattle.cargo_lock_table_flaws.specs.Unresolved.{unresolved_replacement};
 
-use crate::finding::{Role, TableFinding};
+use crate::finding::{Place, Role, TableFinding};
 use cargo_lock_encoding::EncodableLockfile;
 use cargo_lock_references::index::Indexed;
 use cargo_lock_references::resolution::dependency_among;
@@ -48,7 +48,7 @@ fn put_listed<'a>(
 ) -> Result<(), AllocError>
     ensures { OnOk result (map table_finding_of found.new.items ≡ map table_finding_of
         found.old.items ++ unresolved_of_each
-        (reading_list format (map encoded_identity listed.now)) (role_in format) listed.now) }
+        (reading_list format (map encoded_identity listed.now)) (role_in format) 1 listed.now) }
 {
     match format {
         ResolveVersion::V1 => {
@@ -74,7 +74,7 @@ fn put_among<'a>(
 ) -> Result<(), AllocError>
     ensures { OnOk result (map table_finding_of found.new.items
         ≡ map table_finding_of found.old.items ++ unresolved_of_each
-        (map encoded_identity listed.now) (role_in ResolveVersion.V2) listed.now) }
+        (map encoded_identity listed.now) (role_in ResolveVersion.V2) 1 listed.now) }
 {
     let list = Indexed::of(alloc, listed)?;
     put_each(alloc, found, &list, Role::Dependency, listed)
@@ -95,6 +95,7 @@ fn put_root<'a>(
             found,
             &Indexed::empty(alloc),
             Role::FullDependency,
+            Place::Root,
             root,
         ),
         None => Ok(()),
@@ -110,28 +111,29 @@ fn put_each<'a>(
 ) -> Result<(), AllocError>
     ensures { OnOk result (map table_finding_of found.new.items ≡ map table_finding_of
         found.old.items
-        ++ unresolved_of_each (map encoded_identity list.now) role listed.now) }
+        ++ unresolved_of_each (map encoded_identity list.now) role 1 listed.now) }
 {
-    for one in listed {
-        put_one(alloc, found, list, role, one)?;
+    for (place, one) in listed.iter().enumerate() {
+        put_one(alloc, found, list, role, Place::Listed(place + 1), one)?;
     }
     Ok(())
 }
 
-// Adds the references of a package.
+// Adds the references of the package at a place.
 fn put_one<'a>(
     alloc: Global,
     found: &mut Found<'a>,
     list: &Indexed<'_, EncodablePackage>,
     role: Role,
+    place: Place,
     one: &'a EncodablePackage,
 ) -> Result<(), AllocError>
     ensures { OnOk result (map table_finding_of found.new.items
         ≡ map table_finding_of found.old.items
-        ++ unresolved_of (map encoded_identity list.now) role one.now) }
+        ++ unresolved_of (map encoded_identity list.now) role place one.now) }
 {
-    put_dependencies(found, list, role, one, one.dependencies.as_slice())?;
-    put_replacement(alloc, found, one, &one.replace)
+    put_dependencies(found, list, role, place, one, one.dependencies.as_slice())?;
+    put_replacement(alloc, found, place, one, &one.replace)
 }
 
 // Adds the dependencies of a package.
@@ -139,15 +141,16 @@ fn put_dependencies<'a>(
     found: &mut Found<'a>,
     list: &Indexed<'_, EncodablePackage>,
     role: Role,
+    place: Place,
     one: &'a EncodablePackage,
     references: &'a [EncodableDependency],
 ) -> Result<(), AllocError>
     ensures { OnOk result (map table_finding_of found.new.items
         ≡ map table_finding_of found.old.items ++ unresolved_dependencies
-        (map encoded_identity list.now) role one.now references.now) }
+        (map encoded_identity list.now) role place one.now references.now) }
 {
     for reference in references {
-        put_unless_resolved(found, list, role, one, reference)?;
+        put_unless_resolved(found, list, role, place, one, reference)?;
     }
     Ok(())
 }
@@ -156,12 +159,13 @@ fn put_dependencies<'a>(
 fn put_replacement<'a>(
     alloc: Global,
     found: &mut Found<'a>,
+    place: Place,
     one: &'a EncodablePackage,
     replace: &'a Option<EncodableDependency>,
 ) -> Result<(), AllocError>
     requires { replace.now ≡ one.now.replace }
     ensures { OnOk result (map table_finding_of found.new.items
-        ≡ map table_finding_of found.old.items ++ unresolved_replacement one.now) }
+        ≡ map table_finding_of found.old.items ++ unresolved_replacement place one.now) }
 {
     match replace {
         Some(reference) => {
@@ -169,6 +173,7 @@ fn put_replacement<'a>(
                 found,
                 &Indexed::empty(alloc),
                 Role::Replacement,
+                place,
                 one,
                 reference,
             )
@@ -182,15 +187,16 @@ fn put_unless_resolved<'a>(
     found: &mut Found<'a>,
     list: &Indexed<'_, EncodablePackage>,
     role: Role,
+    place: Place,
     one: &'a EncodablePackage,
     reference: &'a EncodableDependency,
 ) -> Result<(), AllocError>
     ensures { OnOk result (map table_finding_of found.new.items
         ≡ map table_finding_of found.old.items
-        ++ unresolved_in (map encoded_identity list.now) one.now role reference.now) }
+        ++ unresolved_in (map encoded_identity list.now) place one.now role reference.now) }
 {
     if !does_resolve(list, reference)? {
-        found.push(TableFinding::Unresolved(one, reference, role))?;
+        found.push(TableFinding::Unresolved(place, one, reference, role))?;
     }
     Ok(())
 }

@@ -1,3 +1,4 @@
 pub mod Arguments
 pub mod Outcomes
 pub mod Subcommand
+pub mod Merging

@@ -14,8 +14,10 @@ use Rattle.cargo_lock_check.specs.Finding.{lockfile_finding_line}
 use Rattle.cargo_lock_check.specs.Findings.{AreFindings, FindingsData, PlacedFindingData, placed_told}
 use Rattle.cargo_lock_check.specs.Reporting.{reported_findings}
 use Rattle.cargo_lock_encoding.specs.Lockfiles.{EncodedData, LockfileData}
+use Rattle.cargo_lock_location.specs.Lines.{LinesData}
 use Rattle.cargo_lock_table_flaws.specs.Document.{table_findings_json}
 use Rattle.cargo_lock_table_flaws.specs.Finding.{TableFindingData, table_finding_line}
+use Rattle.cargo_lock_table_flaws.specs.Names.{listed_lines}
 use Rattle.cargo_lock_table_flaws.specs.Report.{IsTableReport, IsUnresolvedReport}
 use Rattle.cargo_lock_table_flaws.specs.Report.{TableReportData}
 use Rattle.cargo_lock_table_flaws.specs.Reporting.{reported_table_findings}
@@ -90,12 +92,16 @@ refused_subject n text r = record {
   packages = [];
 }
 
--- a report on the table of such a text
-abbrev pub checked_report : NamedData → List ℕ → TableReportData → CheckedData
-checked_report n text r = record {
+-- the lines of the packages that the table of a text lists
+abbrev pub lines_in_table : List ℕ → Members → LinesData
+lines_in_table text t = record { packages = []; lines = listed_lines text t }
+
+-- a report on the table of such a text, by the lines of the packages that it lists
+abbrev pub checked_report : NamedData → List ℕ → LinesData → TableReportData → CheckedData
+checked_report n text lines r = record {
   found = found_in_lockfile (refused_subject n text r) (table_text n.prefix r.findings)
-      (λ file _. table_findings_json file r.findings)
-      (λ path _. reported_table_findings path r.findings);
+      (λ file _. table_findings_json file lines r.findings)
+      (λ path _. reported_table_findings path lines r.findings);
   packages = r.packages;
   count = length r.findings;
 }
@@ -106,19 +112,20 @@ IsCheckedLockfile n text l c = (f : FindingsData) × AreFindings text l f
     × (c ≡ checked_lockfile n text l f)
 
 -- the references of these values that resolve to nothing are found, of which there is one
-abbrev pub IsCheckedUnresolved : NamedData → List ℕ → EncodedData → CheckedData → Type 0
-IsCheckedUnresolved n text e c = (r : TableReportData) × IsUnresolvedReport e r
-    × (c ≡ checked_report n text r)
+abbrev pub IsCheckedUnresolved : NamedData → List ℕ → LinesData → EncodedData → CheckedData
+    → Type 0
+IsCheckedUnresolved n text lines e c = (r : TableReportData) × IsUnresolvedReport e r
+    × (c ≡ checked_report n text lines r)
 
 -- this keeps the table of a text from being read as a lockfile
-abbrev pub IsCheckedMembers : NamedData → List ℕ → Members → CheckedData → Type 0
-IsCheckedMembers n text t c = (r : TableReportData) × IsTableReport t r
-    × (c ≡ checked_report n text r)
+abbrev pub IsCheckedMembers : NamedData → List ℕ → LinesData → Members → CheckedData → Type 0
+IsCheckedMembers n text lines t c = (r : TableReportData) × IsTableReport t r
+    × (c ≡ checked_report n text lines r)
 
--- the same of the table that the text is
+-- the same of the table that the text is, by the lines of its packages
 abbrev pub IsCheckedTable : NamedData → List ℕ → CheckedData → Type 0
 IsCheckedTable n text c = (t : Members) × (parse_document text ≡ Some t)
-    × IsCheckedMembers n text t c
+    × IsCheckedMembers n text (lines_in_table text t) t c
 
 -- this is found in a text: of one that means a lockfile within the limit its findings, and of a table
 -- that means none what keeps it from that

@@ -44,8 +44,8 @@ name_of Why = codes "why"
 
 -- what a command leaves with the options that were found, and its status: `audit`, `check`, `diff`,
 -- `duplicates`, `licenses`, `merge` and `verify` may end with failure if they found something, `check`
--- with that of a fault if it did not read each of several lockfiles, and each other one ends with
--- success
+-- with that of a fault if it did not read each of several lockfiles, `merge` with that if its document
+-- says why there is no merge, and each other one ends with success
 abbrev pub Follows : Chosen → Found → Option (List ℕ) → Option (List ℕ) → Type 0 → Type 0 → Type 0
     → Type 0
 Follows Audit found old new failure success fault = PrintsAudit found old new failure success
@@ -59,7 +59,7 @@ Follows Json found old new failure success fault = PrintsLockfile found old new 
 Follows Licenses found old new failure success fault = (counts : Counts)
     × PrintsLicenses found old new counts × IsFindingsStatus counts.findings failure success
 Follows Listing found old new failure success fault = PrintsList found old new × success
-Follows Merge found old new failure success fault = PrintsMerge found old new failure success
+Follows Merge found old new failure success fault = PrintsMerge found old new failure success fault
 Follows Translate found old new failure success fault = PrintsTranslation found old new × success
 Follows Tree found old new failure success fault = PrintsTrees found old new × success
 Follows Verify found old new failure success fault = PrintsVerified found old new failure success
@@ -68,6 +68,10 @@ Follows Why found old new failure success fault = PrintsWhy found old new × suc
 -- the arguments name a command that counts what it found, on standard error
 abbrev pub IsCounting : List (List ℕ) → Type 0
 IsCounting words = IsCommandNamed (codes "check") words ⊎ IsCommandNamed (codes "licenses") words
+
+-- the arguments name a command that may print its output and faults
+abbrev pub IsFailing : List (List ℕ) → Type 0
+IsFailing words = IsCommandNamed (codes "check") words ⊎ IsCommandNamed (codes "merge") words
 
 -- the arguments name one of the commands that may write to standard error without a fault
 abbrev pub TellsMore : List (List ℕ) → Type 0

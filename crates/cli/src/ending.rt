@@ -22,9 +22,9 @@ pub(crate) enum Ended {
     /// Without findings, and with a line that counts what was looked at, for a person.
     FoundNothing(String),
 
-    /// With the status of a fault, since lockfiles were not read, the faults of these, and a line that
-    /// counts what was found in the others.
-    NotAllRead(ExitCode, Vec<Fault>, String),
+    /// With the status of a fault, since lockfiles were not read or cannot be merged, the faults of
+    /// these, and a line that counts what was found in others.
+    Failed(ExitCode, Vec<Fault>, String),
 }
 
 impl Ended {

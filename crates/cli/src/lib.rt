@@ -16,7 +16,8 @@ ghost use Rattle.std.specs.Process.{exit_status};
 ghost use Rattle.clap.specs.Matches.{found_of};
 ghost use Rattle.cli_support.specs.Status.{IsCommandNamed, IsFaultStatus};
 ghost use Rattle.cli.specs.Check.{IsFindingsStatus};
-ghost use Rattle.cli.specs.Commands.{Follows, FollowsMatches, IsCounting, TellsMore, name_of};
+ghost use Rattle.cli.specs.Commands.{Follows, FollowsMatches, IsCounting, IsFailing, TellsMore};
+ghost use Rattle.cli.specs.Commands.{name_of};
 ghost use Rattle.cli.specs.Counts as spec;
 ghost use Rattle.cli.specs.Ending.{IsCountedFor, IsEnd, counts_in, status_in};
 ghost use Rattle.cli.specs.declared.ending.Reader.TheVariants.{Person, Program};
@@ -122,8 +123,8 @@ fn status_of<S: AsStr, E: Write>(
             }
             ExitCode::SUCCESS
         }
-        Ok(Ended::NotAllRead(status, faults, counts)) => {
-            if words::name_command(words, "check") {
+        Ok(Ended::Failed(status, faults, counts)) => {
+            if names_failing(words) {
                 put_faults(err, &faults);
                 put_lines(err, &counts);
             }
@@ -138,6 +139,13 @@ fn names_counting<S: AsStr>(words: &[S]) -> bool
     ensures { IsTrue result ↔ IsCounting (map S.text words.now) }
 {
     words::name_command(words, "check") || words::name_command(words, "licenses")
+}
+
+/// Whether the arguments name a command that reports faults after it printed its output.
+fn names_failing<S: AsStr>(words: &[S]) -> bool
+    ensures { IsTrue result ↔ IsFailing (map S.text words.now) }
+{
+    words::name_command(words, "check") || words::name_command(words, "merge")
 }
 
 /// Prints the messages of faults, each as `report` does.

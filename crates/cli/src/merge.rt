@@ -1,21 +1,30 @@
 //! The command `merge`: two lockfiles, merged over their common ancestor.
-ghost use Rattle.std.specs.Prelude.{◌≡◌, IfOk};
-ghost use Rattle.clap.specs.Matches.{found_of};
-ghost use Rattle.cargo_lock_merge.specs.MergedLockfiles.{MergesTo};
-ghost use Rattle.cli_input.specs.Load.{IsMeantWithCargoChecksums};
+ghost use Rattle.std.specs.Prelude.{◌≡◌, ◌≢◌, ◌∷◌, ◌++◌, [], IfOk, OnOk, codes};
+ghost use Rattle.std.specs.Prelude.{string_bytes};
+ghost use Rattle.std.specs.Io.KnownBytes.{Appends, Keeps};
+ghost use Rattle.std.specs.Process.{exit_status};
+ghost use Rattle.clap.specs.Matches.{first_value, found_of};
+ghost use Rattle.cargo_lock_merge.specs.declared.lockfiles.MergeError.TheVariants.{Memory};
+ghost use Rattle.cargo_lock_parts.specs.Ascii.{newline};
+ghost use Rattle.cli_input.specs.Load.{MeansWithCargoChecksums};
+ghost use Rattle.cli_support.specs.Destination.{IsPrinted};
 ghost use Rattle.cli.specs.Ending.{IsEnd, status_in};
-ghost use Rattle.cli.specs.Merge.{AreCompared, IsMeantForMerge, PrintsMerge, PrintsMergeOf};
-ghost use Rattle.cli.specs.Merge.{triple_of_files};
+ghost use Rattle.cli.specs.Merge.{AreInputs, IsBase, IsSide, IsTelling, PrintsConflicts};
+ghost use Rattle.cli.specs.Merge.{PrintsMerge, PrintsMergeAs, PrintsMerged, PrintsRefusal};
 
 use crate::ending::Ended;
-use cargo_lock::{Error, Lockfile};
-use cargo_lock_merge::lockfiles::{LockfileMerge, MergeError, merge_lockfiles};
-use cargo_lock_merge::with_cargo_spelling;
-use clap::{ArgMatches, Command};
-use cli_input::load::{compared_lockfile, lockfile_without_packages};
-use cli_support::Fault;
+use cargo_lock::Error;
+use cargo_lock_merge::comments::MergedComments;
+use cargo_lock_merge::lockfiles::{LockfileConflicts, LockfileMerge, MergeError};
+use cargo_lock_merge::notice::Remarks;
+use cargo_lock_merge::{MergeInput, MergeInputs, conflicts_json, merged_json, refused_json};
+use clap::error::ErrorKind as WordsKind;
+use clap::{Arg, ArgMatches, Command};
+use cli_input::load::{WithText, compared_with_text, lockfile_without_packages};
 use cli_support::destination::put_own_out;
-use cli_support::words::{any_size, is_standard, lockfile_path, output};
+use cli_support::output::put;
+use cli_support::words::{any_size, is_standard, lockfile_path, output, output_file};
+use cli_support::{Fault, words};
 use std::alloc::{AllocError, Global};
 use std::io::{ErrorKind, Input, Write};
 use std::process::ExitCode;
@@ -23,13 +32,18 @@ use std::rt::Files;
 
 /// The lines of `merge` and its statuses, as help shows them.
 const MERGE_HELP: &str = "\
-Packages are merged by what they are, and not line by line. On standard error is a line for
+Packages are merged by what they are, and not line by line. The text is as Cargo writes it, with the \
+comments at the top that Cargo keeps. On standard error is a line for
   conflict: what both sides changed, each to something else; nothing is written
   version: a member whose version both sides changed; the greater one is taken
   alarm: a checksum that a side lost; it is kept
   moved: a dependency on a package that neither side has for it
+  comments: both sides changed those at the top; ours are taken
 A BASE that is empty or not there is a lockfile without packages. No lockfile says whether a \
 requirement admits a version, so run `cargo metadata --locked` after a merge.
+
+With --json all that is one line of JSON on standard output, and the lockfile goes to the file of \
+--output, which must be given.
 
 The status is 1 where there is a conflict, and 2 where a lockfile cannot be read or merged.";
 
@@ -40,6 +54,9 @@ const OURS_HELP: &str = "Our lockfile, - for standard input";
 
 const THEIRS_HELP: &str = "Their lockfile, - for standard input";
 
+/// Why a document is refused.
+const NO_FILE: &str = "--json needs a file for --output";
+
 /// The parser of this command: its options and the paths of three lockfiles.
 pub(crate) fn command<'a>(alloc: Global) -> Result<Command<'a>, AllocError> {
     Command::new(alloc, "merge")
@@ -49,22 +66,32 @@ pub(crate) fn command<'a>(alloc: Global) -> Result<Command<'a>, AllocError> {
         .arg(lockfile_path(alloc, "ours", "OURS").help(OURS_HELP))?
         .arg(lockfile_path(alloc, "theirs", "THEIRS").help(THEIRS_HELP))?
         .arg(any_size(alloc)?)?
+        .arg(json(alloc)?)?
         .arg(output(alloc))
 }
 
-/// The lockfiles of a merge, with the checksums that Cargo reads, and crates.io as Cargo writes it.
-#[derive(Drop)]
-struct Three {
-    base: Lockfile,
-    ours: Lockfile,
-    theirs: Lockfile,
+/// The option to print a document. The lockfile goes to a file then.
+fn json<'a>(alloc: Global) -> Result<Arg<'a>, AllocError> {
+    words::json(alloc)?.requires_arg("output")
+}
+
+/// What is told of a merge.
+#[derive(Clone, Copy)]
+enum Telling {
+    /// Lines, on standard error.
+    Lines,
+
+    /// A document, on standard output. The lockfile goes to a file then.
+    Document,
 }
 
 /// Writes the merge of two lockfiles over a base into the output file, or to `out`. The status is
 /// then 0. Where the sides are in conflict nothing is written, and the status is 1. What standard
 /// error is to have comes with the status: a line for each conflict, or for each version that was
-/// chosen, each checksum that a side lost, and each dependency that neither side has. Fails if a
-/// lockfile is not read or cannot be merged, and if the output fails.
+/// chosen, each checksum that a side lost, and each dependency that neither side has. If the arguments
+/// ask for JSON, `out` gets all that as one line in its place. That line also says why lockfiles cannot
+/// be merged, and the status is then 2. Fails if lockfiles cannot be merged otherwise, if one is not
+/// read, if JSON is asked for and the output is no file, and if the output fails.
 pub(crate) fn run<R: Files + Input + AllocGlobal, W: Write>(
     rt: &R,
     options: &ArgMatches<'_>,
@@ -72,39 +99,72 @@ pub(crate) fn run<R: Files + Input + AllocGlobal, W: Write>(
 ) -> Result<Ended, Fault>
     ensures printed { IfOk result (λ ended. PrintsMerge (found_of options.now)
         (W.contents out.old) (W.contents out.new)
-        (status_in ended ≡ ExitCode.FAILURE) (status_in ended ≡ ExitCode.SUCCESS)) }
+        (status_in ended ≡ ExitCode.FAILURE) (status_in ended ≡ ExitCode.SUCCESS)
+        (exit_status (status_in ended) ≡ 2)) }
     ensures end { IfOk result IsEnd }
 {
-    let three = three_lockfiles(rt, options)?;
-    let merge = merge_of(rt.alloc(), &three)?;
-    put_merge(rt, options, merge, out)
+    let telling = asked(rt.alloc(), options)?;
+    let inputs = inputs(rt, options)?;
+    let comments = inputs.comments();
+    match inputs.merge(rt.alloc(), comments) {
+        Ok(merge) => put_merge(rt, options, telling, comments, merge, out),
+        Err(error) => put_refusal(rt.alloc(), telling, &error, out),
+    }
+}
+
+/// What the arguments ask to be told. Fails if it is a document, and the lockfile would be beside it.
+fn asked(alloc: Global, options: &ArgMatches<'_>) -> Result<Telling, Fault>
+    ensures { IfOk result (IsTelling (found_of options.now)) }
+{
+    if !options.get_flag("json") {
+        return Ok(Telling::Lines);
+    }
+    if output_file(options).is_some() {
+        return Ok(Telling::Document);
+    }
+    let mut command = command(alloc)?;
+    Err(Fault::from(command.error(WordsKind::MissingRequiredArgument, NO_FILE)?))
 }
 
 /// The three lockfiles that the arguments name. Fails if one is not read, and if two of them are
 /// standard input.
-fn three_lockfiles<R: Files + Input + AllocGlobal>(
+fn inputs<R: Files + Input + AllocGlobal>(
     rt: &R,
     options: &ArgMatches<'_>,
-) -> Result<Three, Fault>
-    ensures { IfOk result AreCompared }
+) -> Result<MergeInputs, Fault>
+    ensures { IfOk result AreInputs }
 {
     if are_two_standard(options) {
         return Err(Fault::OneInput);
     }
-    Ok(Three {
+    Ok(MergeInputs {
         base: base(rt, options)?,
         ours: side(rt, options, "ours")?,
         theirs: side(rt, options, "theirs")?,
     })
 }
 
-/// The base of the merge.
-fn base<R: Files + Input + AllocGlobal>(rt: &R, options: &ArgMatches<'_>) -> Result<Lockfile, Fault>
-    ensures { IfOk result IsMeantForMerge }
+/// The base of the merge. One that is not there has no packages and no comments.
+fn base<R: Files + Input + AllocGlobal>(
+    rt: &R,
+    options: &ArgMatches<'_>,
+) -> Result<MergeInput, Fault>
+    ensures { IfOk result IsBase }
 {
-    let lockfile = base_lockfile(rt, options)?;
-    let spelt = with_cargo_spelling(rt.alloc(), lockfile)?;
-    Ok(spelt)
+    match compared_with_text(rt, options, "base") {
+        Ok(read) => input_of(rt.alloc(), read),
+        Err(Fault::File(_, Error::Io(ErrorKind::NotFound))) => no_base(rt.alloc()),
+        Err(fault) => Err(fault),
+    }
+}
+
+/// The base that is not there.
+fn no_base(alloc: Global) -> Result<MergeInput, Fault>
+    ensures { IfOk result IsBase }
+{
+    let lockfile = lockfile_without_packages(alloc)?;
+    let input = MergeInput::new(alloc, lockfile, "")?;
+    Ok(input)
 }
 
 /// The side of the merge whose path the argument `name` has.
@@ -112,12 +172,21 @@ fn side<R: Files + Input + AllocGlobal>(
     rt: &R,
     options: &ArgMatches<'_>,
     name: &str,
-) -> Result<Lockfile, Fault>
-    ensures { IfOk result IsMeantForMerge }
+) -> Result<MergeInput, Fault>
+    ensures { IfOk result IsSide }
 {
-    let lockfile = compared_lockfile(rt, options, name)?;
-    let spelt = with_cargo_spelling(rt.alloc(), lockfile)?;
-    Ok(spelt)
+    let read = compared_with_text(rt, options, name)?;
+    input_of(rt.alloc(), read)
+}
+
+/// The input of a lockfile with its text.
+fn input_of(alloc: Global, read: WithText) -> Result<MergeInput, Fault>
+    requires { MeansWithCargoChecksums (string_bytes read.text) read.lockfile }
+    ensures { IfOk result IsSide }
+{
+    let WithText { text, lockfile } = read;
+    let input = MergeInput::new(alloc, lockfile, text.as_str())?;
+    Ok(input)
 }
 
 /// Whether two of the arguments are standard input.
@@ -128,40 +197,52 @@ fn are_two_standard(options: &ArgMatches<'_>) -> bool {
     (base && (ours || theirs)) || (ours && theirs)
 }
 
-/// The lockfile of the base. One that is not there has no packages.
-fn base_lockfile<R: Files + Input + AllocGlobal>(
-    rt: &R,
-    options: &ArgMatches<'_>,
-) -> Result<Lockfile, Fault>
-    ensures { IfOk result IsMeantWithCargoChecksums }
-{
-    match compared_lockfile(rt, options, "base") {
-        Ok(lockfile) => Ok(lockfile),
-        Err(Fault::File(_, Error::Io(ErrorKind::NotFound))) => {
-            lockfile_without_packages(rt.alloc())
-        }
-        Err(fault) => Err(fault),
-    }
-}
-
-/// The merge of the lockfiles. Fails if one of them cannot be merged.
-fn merge_of(alloc: Global, three: &Three) -> Result<LockfileMerge<'_>, Fault>
-    ensures { IfOk result (MergesTo (triple_of_files three.now)) }
-{
-    match merge_lockfiles(alloc, &three.base, &three.ours, &three.theirs) {
-        Ok(merge) => Ok(merge),
-        Err(error) => Err(fault_of(alloc, &error)),
-    }
-}
-
 /// The error for lockfiles that cannot be merged, or out of memory.
 fn fault_of(alloc: Global, error: &MergeError<'_>) -> Fault {
+    match format!(in alloc; "{error}") {
+        Ok(text) => Fault::Refused(text),
+        Err(refused) => Fault::from(refused),
+    }
+}
+
+/// Prints the document of lockfiles that cannot be merged, if that is told. Returns the status of a
+/// fault, with the fault. Otherwise fails with it, and where memory ran out.
+fn put_refusal<W: Write>(
+    alloc: Global,
+    telling: Telling,
+    error: &MergeError<'_>,
+    out: &mut W,
+) -> Result<Ended, Fault>
+    ensures printed { IfOk result (λ ended. PrintsRefusal telling error.now
+        (W.contents out.old) (W.contents out.new) × (exit_status (status_in ended) ≡ 2)) }
+    ensures end { IfOk result IsEnd }
+{
     match error {
-        MergeError::Memory => Fault::Library(Error::Memory),
-        _ => match format!(in alloc; "{error}") {
-            Ok(text) => Fault::Refused(text),
-            Err(refused) => Fault::from(refused),
-        },
+        MergeError::Memory => Err(Fault::Library(Error::Memory)),
+        _ => put_reason(alloc, telling, error, out),
+    }
+}
+
+/// The same where memory did not run out.
+fn put_reason<W: Write>(
+    alloc: Global,
+    telling: Telling,
+    error: &MergeError<'_>,
+    out: &mut W,
+) -> Result<Ended, Fault>
+    requires { error.now ≢ Memory }
+    ensures printed { IfOk result (λ ended. PrintsRefusal telling error.now
+        (W.contents out.old) (W.contents out.new) × (exit_status (status_in ended) ≡ 2)) }
+    ensures end { IfOk result IsEnd }
+{
+    match telling {
+        Telling::Lines => Err(fault_of(alloc, error)),
+        Telling::Document => {
+            let faults = vec![in alloc; fault_of(alloc, error)]?;
+            let document = refused_json(alloc, error)?;
+            put_line(out, document.as_str())?;
+            Ok(Ended::Failed(ExitCode::from(2), faults, String::new(alloc)))
+        }
     }
 }
 
@@ -169,23 +250,121 @@ fn fault_of(alloc: Global, error: &MergeError<'_>) -> Fault {
 fn put_merge<R: Files + AllocGlobal, W: Write>(
     rt: &R,
     options: &ArgMatches<'_>,
+    telling: Telling,
+    comments: MergedComments<'_>,
     merge: LockfileMerge<'_>,
     out: &mut W,
 ) -> Result<Ended, Fault>
-    ensures printed { IfOk result (λ ended. PrintsMergeOf (found_of options.now) merge.entry
+    requires { IsTelling (found_of options.now) telling }
+    ensures printed { IfOk result (λ ended. PrintsMergeAs telling (found_of options.now) comments.entry
+        merge.entry
         (W.contents out.old) (W.contents out.new)
         (status_in ended ≡ ExitCode.FAILURE) (status_in ended ≡ ExitCode.SUCCESS)) }
     ensures end { IfOk result IsEnd }
 {
     match merge {
         LockfileMerge::Merged(_, text, remarks) => {
-            let lines = remarks.lines(rt.alloc())?;
-            put_own_out(rt, options, text.as_str(), out)?;
-            Ok(Ended::WithLines(ExitCode::SUCCESS, lines))
+            let told = Remarked {
+                comments,
+                remarks: &remarks,
+            };
+            put_merged(rt, options, telling, text.as_str(), told, out)
         }
         LockfileMerge::InConflict(conflicts) => {
-            let lines = format!(in rt.alloc(); "{conflicts}")?;
+            put_conflicts(rt.alloc(), telling, &conflicts, out)
+        }
+    }
+}
+
+/// What is reported of a merge.
+#[derive(Clone, Copy)]
+struct Remarked<'a> {
+    comments: MergedComments<'a>,
+    remarks: &'a Remarks<'a>,
+}
+
+impl Remarked<'_> {
+    /// All lines, each with its newline.
+    fn lines(self, alloc: Global) -> Result<String, AllocError> {
+        let mut lines = String::from_str(alloc, self.comments.line())?;
+        lines.push_str(self.remarks.lines(alloc)?.as_str())?;
+        Ok(lines)
+    }
+}
+
+/// Writes the text of a merged lockfile. Returns the status, with what standard error is to have.
+fn put_merged<R: Files + AllocGlobal, W: Write>(
+    rt: &R,
+    options: &ArgMatches<'_>,
+    telling: Telling,
+    text: &str,
+    told: Remarked<'_>,
+    out: &mut W,
+) -> Result<Ended, Fault>
+    requires { IsTelling (found_of options.now) telling }
+    ensures printed { IfOk result (λ ended. PrintsMerged telling (found_of options.now)
+        told.entry.comments text.now told.entry.remarks.now (W.contents out.old) (W.contents out.new)
+        × (status_in ended ≡ ExitCode.SUCCESS)) }
+    ensures end { IfOk result IsEnd }
+{
+    match telling {
+        Telling::Lines => {
+            let lines = told.lines(rt.alloc())?;
+            put_own_out(rt, options, text, out)?;
+            Ok(Ended::WithLines(ExitCode::SUCCESS, lines))
+        }
+        Telling::Document => {
+            let document = merged_json(rt.alloc(), told.comments, told.remarks)?;
+            put_in_file(rt, options, text, out)?;
+            put_line(out, document.as_str())?;
+            Ok(Ended::Silent(ExitCode::SUCCESS))
+        }
+    }
+}
+
+/// Writes the text into the output file.
+fn put_in_file<R: Files + AllocGlobal, W: Write>(
+    rt: &R,
+    options: &ArgMatches<'_>,
+    text: &str,
+    out: &mut W,
+) -> Result<(), Fault>
+    requires { ¬ IsPrinted (first_value (found_of options.now) (codes "output")) }
+    ensures { OnOk result (Keeps (W.contents out.old) (W.contents out.new)) }
+{
+    put_own_out(rt, options, text, out)
+}
+
+/// Prints a line, and a newline.
+fn put_line<W: Write>(out: &mut W, line: &str) -> Result<(), Fault>
+    ensures { OnOk result
+        (Appends (W.contents out.old) (W.contents out.new) (line.now ++ newline ∷ [])) }
+{
+    put(out, format_args!("{line}\n"))?;
+    Ok(())
+}
+
+/// Prints the document of conflicts, if that is told. Returns the status, with what standard error is
+/// to have.
+fn put_conflicts<W: Write>(
+    alloc: Global,
+    telling: Telling,
+    conflicts: &LockfileConflicts<'_>,
+    out: &mut W,
+) -> Result<Ended, Fault>
+    ensures printed { IfOk result (λ ended. PrintsConflicts telling conflicts.now
+        (W.contents out.old) (W.contents out.new) × (status_in ended ≡ ExitCode.FAILURE)) }
+    ensures end { IfOk result IsEnd }
+{
+    match telling {
+        Telling::Lines => {
+            let lines = format!(in alloc; "{conflicts}")?;
             Ok(Ended::WithLines(ExitCode::FAILURE, lines))
+        }
+        Telling::Document => {
+            let document = conflicts_json(alloc, conflicts)?;
+            put_line(out, document.as_str())?;
+            Ok(Ended::Silent(ExitCode::FAILURE))
         }
     }
 }

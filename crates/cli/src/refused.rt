@@ -3,7 +3,7 @@ ghost use Rattle.std.specs.Prelude.{◌≡◌, ◌∷◌, [], IfOk, IfSome, opti
 ghost use Rattle.toml.specs.Parse.{parse_document};
 ghost use Rattle.toml.specs.View.{table_view};
 ghost use Rattle.cli.specs.Check.{CheckedData, IsCheckedMembers, IsCheckedOne, IsCheckedTable};
-ghost use Rattle.cli.specs.Check.{IsCheckedUnresolved, checked_report, named_of};
+ghost use Rattle.cli.specs.Check.{IsCheckedUnresolved, checked_report, lines_in_table, named_of};
 
 use crate::checked::{Checked, Named, Prefix};
 use cargo_lock_display::File;
@@ -11,8 +11,8 @@ use cargo_lock_encoding::EncodableLockfile;
 use cargo_lock_location::PackageLines;
 use cargo_lock_report::Reported;
 use cargo_lock_table_flaws::{
-    TableReport, reported_table_findings, table_findings_json, table_values, unread_report,
-    unresolved_report,
+    TableReport, listed_lines, reported_table_findings, table_findings_json, table_values,
+    unread_report, unresolved_report,
 };
 use cli_input::findings::{Findings, Form, Told};
 use cli_input::load::file_at;
@@ -50,8 +50,7 @@ fn table_of(alloc: Global, text: &str) -> Result<Option<Table>, AllocError>
     }
 }
 
-/// What keeps the table of a text from being read: the values that do not read, and if there are
-/// none, the references that resolve to nothing.
+/// What keeps the table of a text from being read, each thing at the line of its package.
 fn checked_members(
     alloc: Global,
     form: Form,
@@ -60,12 +59,32 @@ fn checked_members(
     table: &Table,
 ) -> Result<Option<Checked>, Fault>
     ensures { IfOk result (λ found. IfSome found (λ checked. (c : CheckedData)
-        × IsCheckedMembers (named_of named.entry) text.now (table_view table.now) c
+        × IsCheckedMembers (named_of named.entry) text.now
+        (lines_in_table text.now (table_view table.now)) (table_view table.now) c
+        × IsCheckedOne form c checked)) }
+{
+    let numbers = listed_lines(alloc, text, table)?;
+    let lines = PackageLines::new(alloc, &[], &numbers)?;
+    checked_values(alloc, form, named, text, &lines, table)
+}
+
+/// What keeps the table of a text from being read, by the lines of its packages: the values that do
+/// not read, and if there are none, the references that resolve to nothing.
+fn checked_values(
+    alloc: Global,
+    form: Form,
+    named: Named<'_>,
+    text: &str,
+    lines: &PackageLines<'_>,
+    table: &Table,
+) -> Result<Option<Checked>, Fault>
+    ensures { IfOk result (λ found. IfSome found (λ checked. (c : CheckedData)
+        × IsCheckedMembers (named_of named.entry) text.now lines.now (table_view table.now) c
         × IsCheckedOne form c checked)) }
 {
     match unread_report(alloc, table)? {
-        Some(report) => Ok(Some(checked_report(alloc, form, named, text, &report)?)),
-        None => checked_references(alloc, form, named, text, table),
+        Some(report) => Ok(Some(checked_report(alloc, form, named, text, lines, &report)?)),
+        None => checked_references(alloc, form, named, text, lines, table),
     }
 }
 
@@ -75,14 +94,15 @@ fn checked_references(
     form: Form,
     named: Named<'_>,
     text: &str,
+    lines: &PackageLines<'_>,
     table: &Table,
 ) -> Result<Option<Checked>, Fault>
     ensures { IfOk result (λ found. IfSome found (λ checked. (c : CheckedData)
-        × IsCheckedMembers (named_of named.entry) text.now (table_view table.now) c
+        × IsCheckedMembers (named_of named.entry) text.now lines.now (table_view table.now) c
         × IsCheckedOne form c checked)) }
 {
     match table_values(alloc, table)? {
-        Some(values) => checked_unresolved(alloc, form, named, text, &values),
+        Some(values) => checked_unresolved(alloc, form, named, text, lines, &values),
         None => Ok(None),
     }
 }
@@ -93,28 +113,30 @@ fn checked_unresolved(
     form: Form,
     named: Named<'_>,
     text: &str,
+    lines: &PackageLines<'_>,
     values: &EncodableLockfile,
 ) -> Result<Option<Checked>, Fault>
     ensures { IfOk result (λ found. IfSome found (λ checked. (c : CheckedData)
-        × IsCheckedUnresolved (named_of named.entry) text.now values.now c
+        × IsCheckedUnresolved (named_of named.entry) text.now lines.now values.now c
         × IsCheckedOne form c checked)) }
 {
     match unresolved_report(alloc, values)? {
-        Some(report) => Ok(Some(checked_report(alloc, form, named, text, &report)?)),
+        Some(report) => Ok(Some(checked_report(alloc, form, named, text, lines, &report)?)),
         None => Ok(None),
     }
 }
 
-/// What a report says of a text.
+/// What a report says of a text, by the lines of the packages in its table.
 fn checked_report(
     alloc: Global,
     form: Form,
     named: Named<'_>,
     text: &str,
+    lines: &PackageLines<'_>,
     report: &TableReport<'_>,
 ) -> Result<Checked, AllocError>
     ensures { IfOk result (λ checked. IsCheckedOne form
-        (checked_report (named_of named.entry) text.now report.now) checked) }
+        (checked_report (named_of named.entry) text.now lines.now report.now) checked) }
 {
     let file = file_at(named.argument, report.format);
     let subject = Subject {
@@ -126,6 +148,7 @@ fn checked_report(
     let all = AllOfTable {
         prefix: named.prefix,
         report,
+        lines,
     };
     let told = Told::of(alloc, form, subject, &all)?;
     let findings = report.findings.len();
@@ -135,12 +158,13 @@ fn checked_report(
 /// The findings of a table. `Display` writes them in their order, each with its newline, and behind a
 /// path if there is one.
 #[derive(Clone, Copy)]
-struct AllOfTable<'a, 'f> {
+struct AllOfTable<'a, 'f, 'l> {
     prefix: Option<&'a str>,
     report: &'a TableReport<'f>,
+    lines: &'a PackageLines<'l>,
 }
 
-impl fmt::Display for AllOfTable<'_, '_> {
+impl fmt::Display for AllOfTable<'_, '_, '_> {
     ghost use Rattle.std.specs.Prelude.{Some, option_map};
     ghost use Rattle.cli.specs.Check.{table_text};
 
@@ -148,7 +172,7 @@ impl fmt::Display for AllOfTable<'_, '_> {
         all.report.now.findings) };
 
     fn fmt<W: fmt::Write>(&self, f: &mut fmt::Formatter<W>) -> fmt::Result {
-        let AllOfTable { prefix, report } = *self;
+        let AllOfTable { prefix, report, .. } = *self;
         let prefix = Prefix(prefix);
         let findings = report.findings.as_slice();
         for finding in findings {
@@ -158,13 +182,14 @@ impl fmt::Display for AllOfTable<'_, '_> {
     }
 }
 
-impl Findings for AllOfTable<'_, '_> {
+impl Findings for AllOfTable<'_, '_, '_> {
     ghost use Rattle.cargo_lock_table_flaws.specs.Document.{table_findings_json};
     ghost use Rattle.cargo_lock_table_flaws.specs.Reporting.{reported_table_findings};
 
-    ghost json = { λ file _ all. table_findings_json file all.report.now.findings };
+    ghost json = { λ file _ all. table_findings_json file all.lines.now all.report.now.findings };
 
-    ghost reported = { λ path _ all. reported_table_findings path all.report.now.findings };
+    ghost reported = { λ path _ all.
+        reported_table_findings path all.lines.now all.report.now.findings };
 
     fn document(
         &self,
@@ -172,7 +197,7 @@ impl Findings for AllOfTable<'_, '_> {
         file: &File<'_>,
         _lines: &PackageLines<'_>,
     ) -> Result<String, AllocError> {
-        table_findings_json(alloc, file, self.report)
+        table_findings_json(alloc, file, self.report, self.lines)
     }
 
     fn reports(
@@ -181,6 +206,6 @@ impl Findings for AllOfTable<'_, '_> {
         path: &str,
         _lines: &PackageLines<'_>,
     ) -> Result<Vec<Reported>, AllocError> {
-        reported_table_findings(alloc, path, self.report)
+        reported_table_findings(alloc, path, self.report, self.lines)
     }
 }

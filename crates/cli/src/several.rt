@@ -105,7 +105,7 @@ impl Several {
         if faults.is_empty() {
             return ended(checked.findings, counts);
         }
-        Ended::NotAllRead(ExitCode::from(2), faults, counts)
+        Ended::Failed(ExitCode::from(2), faults, counts)
     }
 
     /// Adds what is found in one more lockfile, or the fault of it. Fails when out of memory, which is

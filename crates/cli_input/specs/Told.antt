@@ -162,11 +162,11 @@ pub record KeptTold : Type 0 where
   pub reported : List ReportedData
 
 -- this is what is printed of what is found, but for the log and the annotations that are made of
--- findings
+-- findings: where these are asked for there is no text, and else no finding of a report
 abbrev pub IsToldAs : Form → List LockfileFound → KeptTold → Type 0
-IsToldAs form.Lines all told = told.text ≡ flat_map (λ f. f.lines) all
+IsToldAs form.Lines all told = (told.text ≡ flat_map (λ f. f.lines) all) × (told.reported ≡ [])
 IsToldAs form.Json all told = (texts : List (List ℕ))
     × AllZip IsJsonText (map (λ f. f.document) all) texts
-    × (told.text ≡ flat_map (λ text. text ++ newline ∷ []) texts)
-IsToldAs form.Sarif all told = told.reported ≡ flat_map (λ f. f.reported) all
-IsToldAs form.Github all told = told.reported ≡ flat_map (λ f. f.reported) all
+    × (told.text ≡ flat_map (λ text. text ++ newline ∷ []) texts) × (told.reported ≡ [])
+IsToldAs form.Sarif all told = (told.text ≡ []) × (told.reported ≡ flat_map (λ f. f.reported) all)
+IsToldAs form.Github all told = (told.text ≡ []) × (told.reported ≡ flat_map (λ f. f.reported) all)

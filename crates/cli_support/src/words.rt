@@ -232,7 +232,8 @@ pub fn name<'a>(alloc: Global) -> Result<Arg<'a>, AllocError> {
         .value_name("PATH")
         .help("The path of standard input in the report, `Cargo.lock` without it")
         .action(ArgAction::Set)
-        .requires_arg("format")
+        .requires_arg("format")?
+        .conflicts_with("json")
 }
 
 /// The option to read a lockfile of any length.

@@ -1,4 +1,4 @@
-use Rattle.cargo_lock_c.specs.Merges.{LacksMerge, triple_of_texts}
+use Rattle.cargo_lock_c.specs.Merges.{LacksMerge}
 use Rattle.cargo_lock_c.proofs.MergeTexts.{memory-lacks}
 use Rattle.cargo_lock_c.proofs.Refusals.{refusal-passed}
 use Rattle.cargo_lock_c.proofs.merge.read_and_merge.Goals as goal
@@ -10,4 +10,10 @@ returns-in_err-answer-clause-err c =
     (memory-lacks c.args.base.now c.args.ours.now c.args.theirs.now refusal c.in_err-answer.ensures.err)
 
 pub returns-clause-ok : goal.returns-clause-ok
-returns-clause-ok c = (triple_of_texts c.in_ok-three.three, c.in_ok-three.ensures.ok, c.in_ok-answer.ensures.ok)
+returns-clause-ok c = (
+  c.in_ok-inputs.inputs,
+  c.in_ok-inputs.ensures.ok,
+  c.comments.result,
+  c.comments.ensures,
+  c.in_ok-answer.ensures.ok,
+)

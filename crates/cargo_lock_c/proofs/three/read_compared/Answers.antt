@@ -10,4 +10,4 @@ returns-in_err-whole-clause-refused c =
     (memory-text c.args.bytes.now refusal c.in_err-whole.ensures.err)
 
 pub returns-clause-ok : goal.returns-clause-ok
-returns-clause-ok c = (c.in_ok-lockfile.lockfile, c.in_ok-lockfile.ensures.ok, c.in_ok-whole.ensures.ok)
+returns-clause-ok c = (c.in_ok-lockfile.lockfile, c.in_ok-lockfile.ensures.ok, rw c.in_ok-whole.ensures.ok at c.in_ok-input.ensures.ok)

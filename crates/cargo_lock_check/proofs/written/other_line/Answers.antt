@@ -5,7 +5,8 @@ use Rattle.std.specs.Str.Lines.{lines}
 use Rattle.cargo_lock_encoding.specs.Lockfiles.{LockfileData}
 use Rattle.cargo_lock.specs.CargoChecksums.{with_cargo_checksums_in}
 use Rattle.cargo_lock_check.specs.Findings.{IsOther, IsWrittenByCargo, IsWrittenInV1, printed_lines}
-use Rattle.cargo_lock_check.specs.Text.{AreSameLines, IsFirstOther, OtherLineData, cargo_lines}
+use Rattle.cargo_lock_check.specs.Text.{AreSameLines, IsFirstOther, OtherLineData}
+use Rattle.cargo_lock_layout.specs.Lines.{cargo_lines}
 use Rattle.cargo_lock_check.proofs.written.other_line.Goals as goal
 
 none-there : {X : Type 0} (o : Option X) → is_some o ≡ false → o ≡ None

@@ -3,7 +3,8 @@ use Rattle.std.specs.Str.Lines.{lines}
 use Rattle.cargo_lock_lines.specs.Layout.{join_lines}
 use Rattle.cargo_lock_encoding.specs.Text.{lines_of}
 use Rattle.cargo_lock_check.specs.Findings.{printed_lines}
-use Rattle.cargo_lock_check.specs.Text.{AreSameLines, IsFirstOther, cargo_lines}
+use Rattle.cargo_lock_check.specs.Text.{AreSameLines, IsFirstOther}
+use Rattle.cargo_lock_layout.specs.Lines.{cargo_lines}
 use Rattle.cargo_lock_check.proofs.written.other_than_printed.Goals as goal
 
 pub returns-clause-ok : goal.returns-clause-ok

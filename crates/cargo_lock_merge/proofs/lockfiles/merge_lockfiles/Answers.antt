@@ -10,4 +10,4 @@ returns-clause-ok c =
 pub returns-clause-by_places : goal.returns-clause-by_places
 returns-clause-by_places c =
     let s : LockfileTriple = triple_of c.args.base.now c.args.ours.now c.args.theirs.now in
-    merges-by-places s c.in_ok-joined.field-0 (c.in_ok-joined.ensures.ok s c.in_ok-refuse_roots.ensures.ok c.in_ok-outcome.ensures.ok c.in_ok-rest.ensures.ok)
+    merges-by-places c.args.comments.now s c.in_ok-joined.field-0 (c.in_ok-joined.ensures.ok s c.in_ok-refuse_roots.ensures.ok c.in_ok-outcome.ensures.ok c.in_ok-rest.ensures.ok)

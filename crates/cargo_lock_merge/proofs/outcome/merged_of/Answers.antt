@@ -1,4 +1,4 @@
-use Rattle.std.proofs.Common.{◌≡◌, ◌∙◌, ℕ, List, map, subst, sym}
+use Rattle.std.proofs.Common.{ℕ, List, map, subst, sym}
 use Rattle.cargo_lock_parts.specs.Identity.{PackageData}
 use Rattle.cargo_lock_merge_core.specs.Merged.{merged_data}
 use Rattle.cargo_lock_merge_core.specs.Numbered.{all_data}

@@ -6,5 +6,5 @@ use Rattle.cargo_lock_table_flaws.proofs.unresolved.put_dependencies.Given as go
 
 abbrev pub invariant-loop-reference : goal.invariant-loop-reference
 invariant-loop-reference l =
-    map table_finding_of l.found.items ++ unresolved_dependencies (map encoded_identity l.list) l.role l.one (drop l.reference-index l.references)
-    ≡ map table_finding_of l.initial.found.items ++ unresolved_dependencies (map encoded_identity l.list) l.role l.one l.references
+    map table_finding_of l.found.items ++ unresolved_dependencies (map encoded_identity l.list) l.role l.place l.one (drop l.reference-index l.references)
+    ≡ map table_finding_of l.initial.found.items ++ unresolved_dependencies (map encoded_identity l.list) l.role l.place l.one l.references

@@ -1,14 +1,15 @@
-use Rattle.std.proofs.Common.{List, ℕ, codes, refl, subst, sym}
-use Rattle.clap.specs.Matches.{first_value, found_of}
+use Rattle.std.proofs.Common.{List, ℕ, ◌≡◌, IfOk, subst, sym}
+use Rattle.std.specs.declared.process.TheConstants.ExitCode.{SUCCESS}
+use Rattle.clap.specs.Matches.{found_of}
 use Rattle.cargo_lock_merge.specs.declared.lockfiles.LockfileMerge.{LockfileMerge}
-use Rattle.cli.specs.Merge.{PrintsMergeOf}
-use Rattle.cli_support.specs.Destination.{TakesOutput}
+use Rattle.cli.specs.Ending.{status_in}
+use Rattle.cli.specs.Merge.{PrintsMergeAs, PrintsMerged}
 use Rattle.cli.proofs.merge.put_merge.Goals as goal
 
 pub returns-in-Merged-clause-printed : goal.returns-in-Merged-clause-printed
 returns-in-Merged-clause-printed g c =
-    let output = first_value (found_of c.args.options.now) (codes "output") in
+    let found = found_of c.args.options.now in
     let old = g.W.Write.contents c.args.out.now in
-    let new = g.W.Write.contents c.put_own_out.new.out in
-    let taken = subst (λ (text : List ℕ). TakesOutput output text old new) c.as_str.ensures.value c.in_ok-put_own_out-in-Merged.ensures in
-    subst (λ (m : LockfileMerge). PrintsMergeOf (found_of c.args.options.now) m old new _ _) (sym c.in-Merged.is) (taken, refl)
+    let new = g.W.Write.contents c.put_merged.new.out in
+    let printed = subst (λ (text : List ℕ). IfOk c.put_merged.result (λ ended. PrintsMerged c.args.telling found c.args.comments text c.in-Merged.remarks old new × (status_in ended ≡ SUCCESS))) c.as_str.ensures.value c.put_merged.ensures.printed in
+    subst (λ (m : LockfileMerge). IfOk c.put_merged.result (λ ended. PrintsMergeAs c.args.telling found c.args.comments m old new _ (status_in ended ≡ SUCCESS))) (sym c.in-Merged.is) printed

@@ -1,16 +1,27 @@
+use Rattle.std.proofs.Common.{inl, inr}
 use Rattle.cli_support.proofs.Writes.{if_ok_weaken}
 use Rattle.cli.proofs.merge.run.Goals as goal
 
+pub returns-in-Ok-clause-printed : goal.returns-in-Ok-clause-printed
+returns-in-Ok-clause-printed g c =
+    if_ok_weaken c.put_merge.result _ _ (λ ended printed. (
+      c.in_ok-inputs.inputs,
+      c.in_ok-inputs.ensures,
+      c.comments-comments.result,
+      c.comments-comments.ensures,
+      c.in_ok-telling.telling,
+      c.in_ok-telling.ensures,
+      inl (c.in-Ok.merge, rw c.in-Ok.is at c.merge.ensures.ok, printed),
+    )) c.put_merge.ensures.printed
+
 pub returns-clause-printed : goal.returns-clause-printed
 returns-clause-printed g c =
-    if_ok_weaken c.put_merge.result _ _ (λ ended printed. (
-      c.in_ok-three.three.base,
-      c.in_ok-three.three.ours,
-      c.in_ok-three.three.theirs,
-      c.in_ok-merge.merge,
-      c.in_ok-three.ensures.base,
-      c.in_ok-three.ensures.ours,
-      c.in_ok-three.ensures.theirs,
-      c.in_ok-merge.ensures,
-      printed,
-    )) c.put_merge.ensures.printed
+    if_ok_weaken c.put_refusal.result _ _ (λ ended printed. (
+      c.in_ok-inputs.inputs,
+      c.in_ok-inputs.ensures,
+      c.comments-comments.result,
+      c.comments-comments.ensures,
+      c.in_ok-telling.telling,
+      c.in_ok-telling.ensures,
+      inr (c.in-Err.error, rw c.in-Err.is at c.merge.ensures.err, printed.0, printed.1),
+    )) c.put_refusal.ensures.printed

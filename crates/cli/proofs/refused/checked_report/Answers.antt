@@ -15,6 +15,7 @@ returns c =
     let form = c.args.form in
     let named = named_of c.args.named in
     let report : TableReportData = c.args.report.now in
+    let lines = c.args.lines.now in
     let told = c.in_ok-told.told in
     let format : c.report.inside.format ≡ report.format =
     ap (λ (r : TableReportData). r.format) c.report.view_is in
@@ -23,13 +24,13 @@ returns c =
     ∙ ap (λ (r : TableReportData). length r.findings) c.report.view_is in
     let ok = c.report.inside.findings.ok.0 in
     let len = c.len-findings.ensures in
-    c.of_one.ensures form (checked_report named c.args.text.now report)
+    c.of_one.ensures form (checked_report named c.args.text.now lines report)
     (subst
     (λ (f : FileData). IsToldAs form
     (record {
       lines = table_text named.prefix report.findings;
-      document = table_findings_json f report.findings;
-      reported = reported_table_findings named.path report.findings;
+      document = table_findings_json f lines report.findings;
+      reported = reported_table_findings named.path lines report.findings;
     } ∷ []) told)
     (c.file_at-file.ensures ∙ ap (λ v. record { path = document_path named.argument; format = v }) format)
     c.in_ok-told.ensures)

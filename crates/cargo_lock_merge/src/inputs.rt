@@ -1,0 +1,101 @@
+//! The three lockfiles of a merge, with the comments at the top of their texts.
+
+ghost use Rattle.std.specs.Prelude.{IfErr, IfOk, IsOkUnless};
+ghost use Rattle.cargo_lock_merge.specs.Inputs.{AreInputComments, IsInputOf, lockfiles_in};
+ghost use Rattle.cargo_lock_merge.specs.MergedLockfiles.{IsMergeError, MergesTo};
+ghost use Rattle.cargo_lock_parts.specs.declared.error.Error.TheVariants.{Memory};
+
+use crate::comments::{MergedComments, merge_comments};
+use crate::lockfiles::{LockfileMerge, MergeError, merge_lockfiles};
+use crate::spelling::with_cargo_spelling;
+use cargo_lock::Lockfile;
+use cargo_lock_layout::comments_of;
+use cargo_lock_parts::error::Result;
+use std::alloc::Global;
+
+/// A lockfile of a merge.
+#[derive(Drop)]
+pub struct MergeInput {
+    /// The lockfile, with crates.io as Cargo writes it.
+    pub lockfile: Lockfile,
+
+    /// The comments at the top of its text that Cargo keeps, each with its newline.
+    pub comments: String,
+}
+
+/// The lockfiles of a merge.
+#[derive(Drop)]
+pub struct MergeInputs {
+    /// The common ancestor of both sides.
+    pub base: MergeInput,
+
+    /// Our side.
+    pub ours: MergeInput,
+
+    /// Their side.
+    pub theirs: MergeInput,
+}
+
+impl MergeInput {
+    /// The input of a lockfile that was read from this text. Call `with_cargo_checksums` for the
+    /// lockfile first: see `merge_lockfiles`.
+    ///
+    /// # Errors
+    ///
+    /// The one error is `Memory`.
+    ///
+    /// ```
+    /// let ours = MergeInput::new(rt.alloc(), ours, text)?;
+    /// ```
+    pub fn new(alloc: Global, lockfile: Lockfile, text: &str) -> Result<MergeInput>
+        ensures ok { IfOk result (IsInputOf lockfile text.now) }
+        ensures err { IsOkUnless result Memory }
+    {
+        let comments = comments_of(alloc, text)?;
+        let lockfile = with_cargo_spelling(alloc, lockfile)?;
+        Ok(MergeInput { lockfile, comments })
+    }
+}
+
+impl MergeInputs {
+    /// The comments of the merge.
+    ///
+    /// ```
+    /// let comments = inputs.comments();
+    /// ```
+    pub fn comments(&self) -> MergedComments<'_>
+        ensures { AreInputComments self.now result }
+    {
+        merge_comments(
+            self.base.comments.as_str(),
+            self.ours.comments.as_str(),
+            self.theirs.comments.as_str(),
+        )
+    }
+
+    /// The merge, whose text has these comments.
+    ///
+    /// # Errors
+    ///
+    /// See `merge_lockfiles`.
+    ///
+    /// ```
+    /// let merge = inputs.merge(rt.alloc(), comments);
+    /// ```
+    pub fn merge(
+        &self,
+        alloc: Global,
+        comments: MergedComments<'_>,
+    ) -> std::result::Result<LockfileMerge<'_>, MergeError<'_>>
+        ensures ok { IfOk result (MergesTo comments.entry.text.now (lockfiles_in self.now)) }
+        ensures err { IfErr result (IsMergeError (lockfiles_in self.now)) }
+    {
+        merge_lockfiles(
+            alloc,
+            &self.base.lockfile,
+            &self.ours.lockfile,
+            &self.theirs.lockfile,
+            comments.text,
+        )
+    }
+}
