@@ -23,6 +23,10 @@ HEAD = """\
 # What is said where the prover came to an end of its steps, its memory or its stack. That `search`
 # gave up is not among it: its limits are numbers of lemmas, the same on each machine.
 LIMIT = re.compile(r"ran out of|could not tell|no verdict|too many steps|out of memory")
+# An import of Rust names, which no other crate sees. (One for the names of clauses is `ghost use`.)
+IMPORT = re.compile(r"(?m)^use ([^;]*);\n")
+# A free function that no other crate can call. (The library of a crate has no contract of it.)
+HIDDEN = re.compile(r"(pub\(\w+\) )?(const )?(unsafe )?fn ")
 # The files of proofs/ that hold the proof of one function, which no other crate can read.
 OF_FUNCTION = ("Answers.antt", "Invariants.antt", "Proof.antt")
 # How a line of the record holds.
@@ -128,24 +132,35 @@ def base_of(crate):
 @functools.cache
 def sum_of_seen(folder):
     """Returns the sum of what a crate above can read of a library: its specs, its lemmas, and its
-    sources without comments and bodies of functions."""
+    sources as `seen_of` returns them."""
     found = hashlib.sha256()
     for path in rt.rtlib.files_of(folder):
         name = os.path.relpath(path, folder)
         if path.endswith(".rt"):
-            add(found, name, without_bodies(name, bytes_of(path).decode()).encode())
+            add(found, name, seen_of(name, bytes_of(path).decode()).encode())
         elif not name.startswith("proofs/") or os.path.basename(path) not in OF_FUNCTION:
             add(found, name, bytes_of(path))
     return found.hexdigest()
 
 
-def without_bodies(file, text):
-    """Returns a source, in the layout of `rattle fmt`, without comments and bodies of functions."""
+def seen_of(file, text):
+    """Returns a source, in the layout of `rattle fmt`, without comments, empty lines, bodies of
+    functions, free functions that are not public, and imports that only these name."""
     lines, inside = text.split("\n"), set()
     for it in rule.functions_of(file, text):
-        inside.update(range(body_of(lines, it), it.last - 1))
-    seen = (line for at, line in enumerate(lines) if at not in inside)
-    return "\n".join(line for line in seen if not line.lstrip().startswith("//"))
+        is_hidden = any(HIDDEN.match(line) for line in lines[it.first - 1 : it.last])
+        first = it.first - 1 if is_hidden else body_of(lines, it)
+        inside.update(range(first, it.last - (0 if is_hidden else 1)))
+    seen = (line for at, line in enumerate(lines) if at not in inside and line.strip())
+    left = "".join(f"{line}\n" for line in seen if not line.lstrip().startswith("//"))
+    named = {*re.findall(r"\w+", IMPORT.sub("", left))}
+    return IMPORT.sub(lambda it: it[0] if brings(it[1], named) else "", left)
+
+
+def brings(path, names):
+    """Returns whether an import of a path brings one of these names, as a glob may."""
+    leaves = re.sub(r"(\w+)::\{self\b", r"{\1", path)
+    return "*" in path or not names.isdisjoint(re.findall(r"\w+(?=\s*(?:[,}]|$))", leaves))
 
 
 def body_of(lines, function):

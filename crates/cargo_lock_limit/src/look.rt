@@ -7,6 +7,8 @@
 
 ghost use Rattle.std.specs.Prelude.{◌<◌, IfSome, length};
 
+use memchr::{memchr2_iter, memrchr2};
+
 /// Whether the versions that the references of a text match may have more bytes together than a
 /// limit. Of a lockfile that Cargo wrote they may not, unless it is a very large one.
 pub(crate) fn may_be_beyond(text: &str, limit: u32) -> bool {
@@ -25,11 +27,7 @@ pub(crate) fn may_be_beyond(text: &str, limit: u32) -> bool {
 
 // How many strings there can be, each between two quotation marks.
 fn strings(bytes: &[u8]) -> usize {
-    bytes
-        .iter()
-        .filter(|byte| is_quotation_mark(**byte))
-        .count()
-        / 2
+    memchr2_iter(b'"', b'\'', bytes).count() / 2
 }
 
 // Whether some part of this length has no quotation mark.
@@ -48,10 +46,5 @@ fn has_part(bytes: &[u8], size: usize) -> bool {
 fn last_mark(bytes: &[u8]) -> Option<usize>
     ensures { IfSome result (λ place. place < length bytes.now) }
 {
-    bytes.iter().rposition(|byte| is_quotation_mark(*byte))
-}
-
-// Whether TOML begins or ends a string with the byte.
-fn is_quotation_mark(byte: u8) -> bool {
-    matches!(byte, b'"' | b'\'')
+    memrchr2(b'"', b'\'', bytes)
 }

@@ -6,7 +6,7 @@ ghost use Rattle.cargo_lock_merge.specs.Headline.{OneSideIsMerged};
 ghost use Rattle.cargo_lock_merge.specs.Lines.{ConflictsAreLines, MovedAreLines, NoticesAreLines};
 ghost use Rattle.cargo_lock_merge.specs.Lines.{RefusalsAreLines};
 
-use cargo_lock_merge_core::laws as core;
+use cargo_lock_merge_core::laws as of_lists;
 
 /// Each conflict is exactly one line, whatever its names, versions, sources and checksums hold.
 pub fn conflicts_are_lines()
@@ -62,16 +62,16 @@ pub fn merge_headline()
     ensures { MergeHeadline }
 {
     one_side_is_merged();
-    core::merge_of_lists_with_base();
-    core::merge_of_lists_with_itself();
-    core::merge_of_lists_is_unique();
-    core::merge_of_lists_is_symmetric();
-    core::conflicts_are_symmetric();
-    core::packages_are_of_sides();
-    core::dependencies_are_of_sides();
-    core::checksums_are_listed();
+    of_lists::merge_of_lists_with_base();
+    of_lists::merge_of_lists_with_itself();
+    of_lists::merge_of_lists_is_unique();
+    of_lists::merge_of_lists_is_symmetric();
+    of_lists::conflicts_are_symmetric();
+    of_lists::packages_are_of_sides();
+    of_lists::dependencies_are_of_sides();
+    of_lists::checksums_are_listed();
     merges_are_sound();
     merges_read_back();
-    core::merge_excludes_conflicts();
+    of_lists::merge_excludes_conflicts();
     merges_are_by_places();
 }
