@@ -206,7 +206,7 @@ impl Reading<'_> {
 
     // Adds an id, and returns whether it is new.
     fn put_id(&mut self, alloc: Global, id: &str) -> Result<bool, AllocError> {
-        self.ids.insert(String::from_str(alloc, id)?)
+        Ok(self.ids.insert(String::from_str(alloc, id)?)?)
     }
 }
 
