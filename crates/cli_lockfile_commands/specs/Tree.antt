@@ -45,11 +45,6 @@ AreDrawn exact direction graph starts text = (texts : List (List ℕ))
 abbrev pub given_specs : Found → List (List ℕ)
 given_specs found = unwrap_or (option_map raw_values (matched_of found (codes "spec"))) []
 
--- the package at the first of some places, if there is one
-abbrev pub first_at : List PackageData → List ℕ → Option PackageData
-first_at packages [] = None
-first_at packages (place ∷ places) = slice_get packages place
-
 -- the node of the first package that a specification fits: that of the last package with its
 -- identity
 pub record IsStartOf (packages : List PackageData) (spec : List ℕ) (start : ℕ) : Type 0 where
