@@ -1,6 +1,6 @@
 -- What `tree` prints.
 use Rattle.std.specs.Prelude.{◌≡◌, ◌≢◌, ◌<◌, ℕ, Bool, if◌then◌else◌, List, [], ◌∷◌, ◌++◌, Option}
-use Rattle.std.specs.Prelude.{None, Some, codes, option_map, slice_get, unwrap_or}
+use Rattle.std.specs.Prelude.{Some, codes, option_map, slice_get, unwrap_or}
 use Rattle.std.specs.Io.KnownBytes.{Appends}
 use Rattle.std.specs.List.{AllZip, flat_map}
 use Rattle.clap.specs.Matches.{matched_of, raw_values}
