@@ -1,5 +1,5 @@
 -- Sources that are put into a map by their forms.
-use Rattle.std.proofs.Common.{◌≡◌, ◌∙◌, inl, inr, ℕ, ◌+◌, ◌<◌, Bool, true, false, cond, List, [], ◌∷◌, ◌++◌, take, length, get_or, Option, Some, None, is_some, refl, sym, ap, true≢false}
+use Rattle.std.proofs.Common.{◌≡◌, ◌∙◌, inl, inr, ℕ, ◌+◌, ◌<◌, Bool, true, false, cond, List, [], ◌∷◌, ◌++◌, take, length, get_or, Option, Some, None, is_some, refl, sym, subst, ap, true≢false}
 use Rattle.std.specs.BTreeMap.{BTreeMap, IsEmpty, get, is_at}
 use Rattle.std.specs.Cmp.{eq_by_cmp_equiv}
 use Rattle.std.specs.HashMap.Eq.{lookup_congr}
@@ -14,7 +14,9 @@ use Rattle.cargo_lock_order.specs.Form.{Form, form_cmp, form_of, form_total}
 use Rattle.cargo_lock_order.specs.Order.{is_canonically_same}
 use Rattle.cargo_lock_parts.specs.Identity.{Identity, PackageData}
 use Rattle.cargo_lock_parts.specs.Source.{Source}
-use Rattle.cargo_lock_merge.specs.Spellings.{HasPutFirst, at_source, first_same, identity_sources, package_sources}
+use Rattle.cargo_lock_merge.specs.Spellings.{HasPutFirst, IsRespelt, at_source, first_same, identity_sources, package_sources, spelling_at, spelling_of}
+use Rattle.cargo_lock_merge.specs.declared.spellings.MergedSpellings.{MergedSpellings}
+use Rattle.cargo_lock_encoding.specs.Lockfiles.{LockfileData}
 
 option_or-none : {X : Type 0} (a : Option X) → option_or a None ≡ a
 option_or-none None = refl
@@ -92,3 +94,8 @@ identities-more xs i x low is =
 -- a map without entries has no value
 pub at-empty : (m : BTreeMap Form Source) → IsEmpty m → (s : Source) → at_source m s ≡ None
 at-empty m h s = ap (λ es. lookup (is_at (form_cmp (form_of s))) es) h
+
+-- a lockfile in the spellings that the program found is one in those of the merge
+pub respelt-by : (all : MergedSpellings) (b o t : LockfileData) → ((s : Source) → spelling_at all s ≡ spelling_of b o t s)
+    → (l r : LockfileData) → IsRespelt (spelling_at all) l r → IsRespelt (spelling_of b o t) l r
+respelt-by all b o t same l r h = subst (λ (f : Source → Option Source). IsRespelt f l r) (λ i s. same s i) h
