@@ -1,4 +1,4 @@
-use Rattle.std.proofs.Common.{◌∙◌, List, ap, length, map, sym}
+use Rattle.std.proofs.Common.{◌∙◌, List, ap, length, map}
 use Rattle.std.proofs.lemmas.List.{length-map, with_items_is}
 use Rattle.cargo_lock_encoding.specs.Lockfiles.{LockfileData}
 use Rattle.cargo_lock_merge.specs.Spellings.{identity_spelt, package_spelt, spelling_at}
@@ -17,7 +17,7 @@ returns-clause-ok c =
           ∙ c.in_ok-respell_packages.ensures.ok
           ∙ ap (λ (ps : List PackageData). map (package_spelt spelling) ps) (c.deref_mut.ensures.value ∙ ap (λ (l : LockfileData). l.packages) is);
       root = ap (λ (l : LockfileData). l.root) is;
-      metadata = λ key. sym (get-view c.in_ok-own.own key) ∙ c.in_ok-own.ensures.ok key;
+      metadata = λ key. get-view c.in_ok-own.own key ∙ c.in_ok-own.ensures.ok key;
       patch = c.in_ok-respell_patches.ensures.ok
           ∙ ap (λ (ds : List Identity). map (identity_spelt spelling) ds) (ap (λ (l : LockfileData). l.patch) is);
     }
