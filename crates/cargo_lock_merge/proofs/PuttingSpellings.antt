@@ -14,7 +14,7 @@ use Rattle.cargo_lock_order.specs.Form.{Form, form_cmp, form_of, form_total}
 use Rattle.cargo_lock_order.specs.Order.{is_canonically_same}
 use Rattle.cargo_lock_parts.specs.Identity.{Identity, PackageData}
 use Rattle.cargo_lock_parts.specs.Source.{Source}
-use Rattle.cargo_lock_merge.specs.Spellings.{HasPutFirst, IsRespelt, at_source, first_same, identity_sources, package_sources, spelling_at, spelling_of}
+use Rattle.cargo_lock_merge.specs.Spellings.{HasPutFirst, IsSpeltBy, known_spelling, first_same, sources_of_identities, sources_of_packages, spelling_at, spelling_of}
 use Rattle.cargo_lock_merge.specs.declared.spellings.MergedSpellings.{MergedSpellings}
 use Rattle.cargo_lock_encoding.specs.Lockfiles.{LockfileData}
 
@@ -40,62 +40,62 @@ same-value m f g e = lookup_congr (eq_by_cmp form_cmp) (eq_by_cmp_equiv form_tot
 
 module _ (m : BTreeMap Form Source) (x : Source) where
   -- there is one already
-  pub put-there : true ≡ is_some (at_source m x) → HasPutFirst m m (x ∷ [])
+  pub put-there : true ≡ is_some (known_spelling m x) → HasPutFirst m m (x ∷ [])
   put-there there s = elim (cases_Bool (is_canonically_same x s)) [
     | inl e ↦
-        some-stays (at_source m s) (first_same (x ∷ []) s)
+        some-stays (known_spelling m s) (first_same (x ∷ []) s)
         (ap is_some (sym (same-value m (form_of x) (form_of s) e)) ∙ sym there)
-    | inr e ↦ sym (ap (λ b. option_or (at_source m s) (cond b (Some x) None)) e ∙ option_or-none (at_source m s))
+    | inr e ↦ sym (ap (λ b. option_or (known_spelling m s) (cond b (Some x) None)) e ∙ option_or-none (known_spelling m s))
   ]
 
   -- there is none yet
-  pub put-new : (n : BTreeMap Form Source) (f : Form) (v : Source) → f ≡ form_of x → v ≡ x → false ≡ is_some (at_source m x)
+  pub put-new : (n : BTreeMap Form Source) (f : Form) (v : Source) → f ≡ form_of x → v ≡ x → false ≡ is_some (known_spelling m x)
       → ((q : Form) → get form_cmp n q ≡ cond (is_at (form_cmp f) q) (Some v) (get form_cmp m q)) → HasPutFirst m n (x ∷ [])
   put-new n f v is same none puts s =
-    let at : at_source n s ≡ cond (is_canonically_same x s) (Some x) (at_source m s) =
-      puts (form_of s) ∙ ap (λ g. cond (is_at (form_cmp g) (form_of s)) (Some v) (at_source m s)) is
-      ∙ ap (λ (z : Source). cond (is_canonically_same x s) (Some z) (at_source m s)) same in
-    elim (cases_Bool (is_canonically_same x s)) [
-      | inl e ↦
-          at ∙ ap (λ b. cond b (Some x) (at_source m s)) e
-          ∙ sym (ap (λ b. option_or (at_source m s) (cond b (Some x) None)) e
-          ∙ ap (λ (o : Option Source). option_or o (Some x))
-          (sym (same-value m (form_of x) (form_of s) e) ∙ none-is (at_source m x) (sym none)))
-      | inr e ↦
-          at ∙ ap (λ b. cond b (Some x) (at_source m s)) e
-          ∙ sym (ap (λ b. option_or (at_source m s) (cond b (Some x) None)) e ∙ option_or-none (at_source m s))
-    ]
+      let at : known_spelling n s ≡ cond (is_canonically_same x s) (Some x) (known_spelling m s) =
+      puts (form_of s) ∙ ap (λ g. cond (is_at (form_cmp g) (form_of s)) (Some v) (known_spelling m s)) is
+      ∙ ap (λ (z : Source). cond (is_canonically_same x s) (Some z) (known_spelling m s)) same in
+      elim (cases_Bool (is_canonically_same x s)) [
+        | inl e ↦
+            at ∙ ap (λ b. cond b (Some x) (known_spelling m s)) e
+            ∙ sym (ap (λ b. option_or (known_spelling m s) (cond b (Some x) None)) e
+            ∙ ap (λ (o : Option Source). option_or o (Some x))
+            (sym (same-value m (form_of x) (form_of s) e) ∙ none-is (known_spelling m x) (sym none)))
+        | inr e ↦
+            at ∙ ap (λ b. cond b (Some x) (known_spelling m s)) e
+            ∙ sym (ap (λ b. option_or (known_spelling m s) (cond b (Some x) None)) e ∙ option_or-none (known_spelling m s))
+      ]
 
 -- nothing is put
 pub put-nothing : (m : BTreeMap Form Source) → HasPutFirst m m []
-put-nothing m s = sym (option_or-none (at_source m s))
+put-nothing m s = sym (option_or-none (known_spelling m s))
 
 -- some sources are put after others
 pub put-more : (m n k : BTreeMap Form Source) (xs ys : List Source) → HasPutFirst m n xs → HasPutFirst n k ys → HasPutFirst m k (xs ++ ys)
 put-more m n k xs ys one other s =
-  other s ∙ ap (λ (o : Option Source). option_or o (first_same ys s)) (one s)
-  ∙ option_or-assoc (at_source m s) (first_same xs s) (first_same ys s)
-  ∙ ap (option_or (at_source m s)) (sym (find-append (λ x. is_canonically_same x s) xs ys))
+    other s ∙ ap (λ (o : Option Source). option_or o (first_same ys s)) (one s)
+    ∙ option_or-assoc (known_spelling m s) (first_same xs s) (first_same ys s)
+    ∙ ap (option_or (known_spelling m s)) (sym (find-append (λ x. is_canonically_same x s) xs ys))
 
 -- the sources of one package more
 pub packages-more : (xs : List PackageData) (i : ℕ) (x : PackageData) → i < length xs → x ≡ get_or xs i x
-    → package_sources (take (i + 1) xs) ≡ package_sources (take i xs) ++ option_to_list x.source
+    → sources_of_packages (take (i + 1) xs) ≡ sources_of_packages (take i xs) ++ option_to_list x.source
 packages-more xs i x low is =
-  ap package_sources (take_more xs i x low ∙ ap (λ (y : PackageData). take i xs ++ y ∷ []) (sym is))
-  ∙ sym (flat_map_more (λ (p : PackageData). option_to_list p.source) [] (take i xs) x)
+    ap sources_of_packages (take_more xs i x low ∙ ap (λ (y : PackageData). take i xs ++ y ∷ []) (sym is))
+    ∙ sym (flat_map_more (λ (p : PackageData). option_to_list p.source) [] (take i xs) x)
 
 -- the sources of one dependency more
 pub identities-more : (xs : List Identity) (i : ℕ) (x : Identity) → i < length xs → x ≡ get_or xs i x
-    → identity_sources (take (i + 1) xs) ≡ identity_sources (take i xs) ++ option_to_list x.source
+    → sources_of_identities (take (i + 1) xs) ≡ sources_of_identities (take i xs) ++ option_to_list x.source
 identities-more xs i x low is =
-  ap identity_sources (take_more xs i x low ∙ ap (λ (y : Identity). take i xs ++ y ∷ []) (sym is))
-  ∙ sym (flat_map_more (λ (d : Identity). option_to_list d.source) [] (take i xs) x)
+    ap sources_of_identities (take_more xs i x low ∙ ap (λ (y : Identity). take i xs ++ y ∷ []) (sym is))
+    ∙ sym (flat_map_more (λ (d : Identity). option_to_list d.source) [] (take i xs) x)
 
 -- a map without entries has no value
-pub at-empty : (m : BTreeMap Form Source) → IsEmpty m → (s : Source) → at_source m s ≡ None
+pub at-empty : (m : BTreeMap Form Source) → IsEmpty m → (s : Source) → known_spelling m s ≡ None
 at-empty m h s = ap (λ es. lookup (is_at (form_cmp (form_of s))) es) h
 
 -- a lockfile in the spellings that the program found is one in those of the merge
 pub respelt-by : (all : MergedSpellings) (b o t : LockfileData) → ((s : Source) → spelling_at all s ≡ spelling_of b o t s)
-    → (l r : LockfileData) → IsRespelt (spelling_at all) l r → IsRespelt (spelling_of b o t) l r
-respelt-by all b o t same l r h = subst (λ (f : Source → Option Source). IsRespelt f l r) (λ i s. same s i) h
+    → (l r : LockfileData) → IsSpeltBy (spelling_at all) l r → IsSpeltBy (spelling_of b o t) l r
+respelt-by all b o t same l r h = subst (λ (f : Source → Option Source). IsSpeltBy f l r) (λ i s. same s i) h

@@ -4,7 +4,7 @@ use Rattle.cargo_lock_encoding.specs.Lockfiles.{LockfileData}
 use Rattle.cargo_lock_layout.specs.Lines.{comments_of}
 use Rattle.cargo_lock_merge.specs.Comments.{AreMergedComments}
 use Rattle.cargo_lock_merge.specs.MergedLockfiles.{LockfileTriple, triple_of}
-use Rattle.cargo_lock_merge.specs.Spellings.{IsRespelt, spelling_of}
+use Rattle.cargo_lock_merge.specs.Spellings.{IsSpeltBy, spelling_of}
 use Rattle.cargo_lock_merge.specs.declared.comments.MergedComments.{MergedComments}
 use Rattle.cargo_lock_merge.specs.declared.inputs.MergeInput.{MergeInput}
 use Rattle.cargo_lock_merge.specs.declared.inputs.MergeInputs.{MergeInputs}
@@ -20,7 +20,7 @@ spelling_among b o t = spelling_of b.lockfile o.lockfile t.lockfile
 
 -- the input y is x with each source in its spelling
 pub record IsRespeltInput (spelling : Source → Option Source) (x y : MergeInput) : Type 0 where
-  pub lockfile : IsRespelt spelling x.lockfile y.lockfile
+  pub lockfile : IsSpeltBy spelling x.lockfile y.lockfile
   pub comments : string_bytes y.comments ≡ string_bytes x.comments
 
 -- the inputs of a merge are these three, in which each source has one spelling

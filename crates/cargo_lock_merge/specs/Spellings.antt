@@ -22,12 +22,12 @@ use Rattle.cargo_lock_merge.specs.declared.spellings.MergedSpellings.{MergedSpel
 -- ---- the spelling in a lockfile
 
 -- the sources of packages
-abbrev pub package_sources : List PackageData → List Source
-package_sources = flat_map (λ p. option_to_list p.source)
+abbrev pub sources_of_packages : List PackageData → List Source
+sources_of_packages = flat_map (λ p. option_to_list p.source)
 
 -- the sources of dependencies
-abbrev pub identity_sources : List Identity → List Source
-identity_sources = flat_map (λ d. option_to_list d.source)
+abbrev pub sources_of_identities : List Identity → List Source
+sources_of_identities = flat_map (λ d. option_to_list d.source)
 
 -- the first of the sources that Cargo takes for this one
 abbrev pub first_same : List Source → Source → Option Source
@@ -36,7 +36,7 @@ first_same sources s = find (λ x. is_canonically_same x s) sources
 -- the spelling of a source in a lockfile: the first one, among the sources of its packages and then of
 -- its unused patches, that Cargo takes for the same
 abbrev pub spelling_in : LockfileData → Source → Option Source
-spelling_in l = first_same (package_sources l.packages ++ identity_sources l.patch)
+spelling_in l = first_same (sources_of_packages l.packages ++ sources_of_identities l.patch)
 
 -- ---- the spelling in a merge
 
@@ -93,7 +93,7 @@ package_spelt spelling p = record p {
 -- The lockfile r is l with each source in its spelling, in packages, in their dependencies and
 -- replacements, and in unused patches. The checksums of packages, which V1 has in its metadata too at
 -- keys with sources, are in the packages alone.
-pub record IsRespelt (spelling : Source → Option Source) (l r : LockfileData) : Type 0 where
+pub record IsSpeltBy (spelling : Source → Option Source) (l r : LockfileData) : Type 0 where
   pub version : r.version ≡ l.version
   pub packages : r.packages ≡ map (package_spelt spelling) l.packages
   pub root : r.root ≡ l.root
@@ -103,15 +103,15 @@ pub record IsRespelt (spelling : Source → Option Source) (l r : LockfileData) 
 -- ---- as the program has them
 
 -- what a map has for the form of a source
-abbrev pub at_source : BTreeMap Form Source → Source → Option Source
-at_source m s = tree.get form_cmp m (form_of s)
+abbrev pub known_spelling : BTreeMap Form Source → Source → Option Source
+known_spelling m s = tree.get form_cmp m (form_of s)
 
 -- these sources were put into the map, each if there was none that Cargo takes for it
 abbrev pub HasPutFirst : BTreeMap Form Source → BTreeMap Form Source → List Source → Type 0
 HasPutFirst old new sources = (s : Source)
-    → at_source new s ≡ option_or (at_source old s) (first_same sources s)
+    → known_spelling new s ≡ option_or (known_spelling old s) (first_same sources s)
 
 -- the spelling of a source in the merge
 abbrev pub spelling_at : MergedSpellings → Source → Option Source
-spelling_at all s = merged_spelling (at_source all.base.first s) (at_source all.ours.first s)
-    (at_source all.theirs.first s)
+spelling_at all s = merged_spelling (known_spelling all.base.first s) (known_spelling all.ours.first s)
+    (known_spelling all.theirs.first s)

@@ -2,7 +2,7 @@
 
 ghost use Rattle.std.specs.Prelude.{◌≡◌, IsOkUnless, OnOk, map, option_map};
 ghost use Rattle.cargo_lock_parts.specs.declared.error.Error.TheVariants.{Memory};
-ghost use Rattle.cargo_lock_merge.specs.Spellings.{IsRespelt, identity_spelt, package_spelt, spelling_at, spelt_as};
+ghost use Rattle.cargo_lock_merge.specs.Spellings.{IsSpeltBy, identity_spelt, package_spelt, spelling_at, spelt_as};
 
 use crate::metadata::own_metadata;
 use crate::spellings::MergedSpellings;
@@ -18,7 +18,7 @@ impl MergedSpellings {
     /// packages alone. A lockfile with a root is not merged, so its root stays. The one error is
     /// `Memory`.
     pub(crate) fn respell_lockfile(&self, alloc: Global, lockfile: &mut Lockfile) -> Result<()>
-        ensures ok { OnOk result (IsRespelt (spelling_at self.now) lockfile.old lockfile.new) }
+        ensures ok { OnOk result (IsSpeltBy (spelling_at self.now) lockfile.old lockfile.new) }
         ensures err { IsOkUnless result Memory }
     {
         let own = own_metadata(alloc, lockfile)?;
@@ -61,11 +61,7 @@ impl MergedSpellings {
     }
 
     // Writes the source of each dependency in its spelling.
-    fn respell_dependencies(
-        &self,
-        alloc: Global,
-        dependencies: &mut [Dependency],
-    ) -> Result<()>
+    fn respell_dependencies(&self, alloc: Global, dependencies: &mut [Dependency]) -> Result<()>
         ensures ok { OnOk result
             (dependencies.new ≡ map (identity_spelt (spelling_at self.now)) dependencies.old) }
         ensures err { IsOkUnless result Memory }

@@ -1,12 +1,11 @@
 //! The spellings of sources in a lockfile and in a merge.
 
 ghost use Rattle.std.specs.Prelude.{◌≡◌, ◌∷◌, [], IfOk, IsOkUnless, OnOk, Some, option_copied};
-ghost use Rattle.std.specs.Prelude.{option_map, string_bytes};
 ghost use Rattle.cargo_lock_order.specs.Form.{form_of};
 ghost use Rattle.cargo_lock_parts.specs.Source.{Source};
 ghost use Rattle.cargo_lock_parts.specs.declared.error.Error.TheVariants.{Memory};
-ghost use Rattle.cargo_lock_merge.specs.Spellings.{HasPutFirst, at_source, identity_sources};
-ghost use Rattle.cargo_lock_merge.specs.Spellings.{is_of_base, lesser, merged_spelling, package_sources};
+ghost use Rattle.cargo_lock_merge.specs.Spellings.{HasPutFirst, known_spelling, sources_of_identities};
+ghost use Rattle.cargo_lock_merge.specs.Spellings.{is_of_base, lesser, merged_spelling, sources_of_packages};
 ghost use Rattle.cargo_lock_merge.specs.Spellings.{spelling_at, spelling_in, spelling_of, spelling_of_both, spelt_as};
 ghost use Rattle.std.specs.Option.{option_to_list};
 
@@ -17,6 +16,7 @@ use cargo_lock_parts::dependency::Dependency;
 use cargo_lock_parts::error::Result;
 use cargo_lock_parts::package::{Package, SourceId};
 use cargo_lock_parts::patch::Patch;
+use cargo_lock_references::identified::copy_source;
 use std::alloc::Global;
 use std::cmp::Ordering;
 use std::collections::BTreeMap;
@@ -32,7 +32,7 @@ impl Spellings {
     /// The spellings of a lockfile. The one error is `Memory`.
     fn of(alloc: Global, lockfile: &Lockfile) -> Result<Spellings>
         ensures ok { IfOk result
-            (λ all. (s : Source) → at_source all.first s ≡ spelling_in lockfile.now s) }
+            (λ all. (s : Source) → known_spelling all.first s ≡ spelling_in lockfile.now s) }
         ensures err { IsOkUnless result Memory }
     {
         let mut spellings = Spellings {
@@ -46,7 +46,7 @@ impl Spellings {
     // Puts the sources of packages, each if there is none that Cargo takes for it.
     fn put_packages(&mut self, alloc: Global, packages: &[Package]) -> Result<()>
         ensures ok { OnOk result
-            (HasPutFirst self.old.first self.new.first (package_sources packages.now)) }
+            (HasPutFirst self.old.first self.new.first (sources_of_packages packages.now)) }
         ensures err { IsOkUnless result Memory }
     {
         for package in packages {
@@ -58,7 +58,7 @@ impl Spellings {
     // The same of unused patches.
     fn put_patches(&mut self, alloc: Global, patch: &Patch) -> Result<()>
         ensures ok { OnOk result
-            (HasPutFirst self.old.first self.new.first (identity_sources patch.now)) }
+            (HasPutFirst self.old.first self.new.first (sources_of_identities patch.now)) }
         ensures err { IsOkUnless result Memory }
     {
         self.put_dependencies(alloc, &patch.unused)
@@ -67,7 +67,7 @@ impl Spellings {
     // The same of dependencies.
     fn put_dependencies(&mut self, alloc: Global, dependencies: &[Dependency]) -> Result<()>
         ensures ok { OnOk result
-            (HasPutFirst self.old.first self.new.first (identity_sources dependencies.now)) }
+            (HasPutFirst self.old.first self.new.first (sources_of_identities dependencies.now)) }
         ensures err { IsOkUnless result Memory }
     {
         for dependency in dependencies {
@@ -165,19 +165,9 @@ fn at_commit_of(alloc: Global, spelling: SourceId, source: &SourceId) -> Result<
     if spelling.precise() == source.precise() {
         return Ok(spelling);
     }
-    let precise = owned(alloc, source.precise())?;
-    spelling.with_precise(precise)
-}
-
-// The text, if there is one.
-fn owned(alloc: Global, text: Option<&str>) -> Result<Option<String>>
-    ensures ok { IfOk result
-        (λ copy. option_map string_bytes copy ≡ option_copied text.entry) }
-    ensures err { IsOkUnless result Memory }
-{
-    match text {
-        Some(text) => Ok(Some(String::from_str(alloc, text)?)),
-        None => Ok(None),
+    match source.precise() {
+        Some(commit) => spelling.with_precise(Some(String::from_str(alloc, commit)?)),
+        None => spelling.with_precise(None),
     }
 }
 
@@ -197,18 +187,7 @@ fn merged_spelling(
         (Some(ours), Some(theirs)) => Ok(Some(spelling_of_both(alloc, base, ours, theirs)?)),
         (Some(ours), None) => Ok(Some(ours.clone()?)),
         (None, Some(theirs)) => Ok(Some(theirs.clone()?)),
-        (None, None) => copy_of(base),
-    }
-}
-
-// A copy of the source, if there is one.
-fn copy_of(source: Option<&SourceId>) -> Result<Option<SourceId>>
-    ensures ok { IfOk result (λ copy. copy ≡ option_copied source.entry) }
-    ensures err { IsOkUnless result Memory }
-{
-    match source {
-        Some(source) => Ok(Some(source.clone()?)),
-        None => Ok(None),
+        (None, None) => Ok(copy_source(base)?),
     }
 }
 
