@@ -13,3 +13,4 @@ pub mod OneSide
 pub mod SoundMerges
 pub mod DocumentDepth
 pub mod Documents
+mod PuttingSpellings

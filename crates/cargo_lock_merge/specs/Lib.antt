@@ -11,6 +11,7 @@ pub mod Patches
 pub mod OwnMetadata
 pub mod Referring
 pub mod Spelling
+pub mod Spellings
 pub mod MergedLockfiles
 pub mod Inputs
 pub mod ByPlaces

@@ -19,7 +19,9 @@ pub mod outcome;
 mod patches;
 mod referring;
 pub mod refused;
+mod respelling;
 pub mod spelling;
+mod spellings;
 mod words;
 
 pub use crate::comments::merge_comments;
