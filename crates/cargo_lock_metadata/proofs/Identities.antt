@@ -1,8 +1,7 @@
 -- Identities that tie are one.
-use Rattle.std.proofs.Common.{◌≡◌, sym, ap, subst}
 use Rattle.std.specs.FinMap.{IsAntisymmetric}
 use Rattle.cargo_lock_parts.specs.IdentityLaws.{option_cmp-anti, text_cmp-anti, tied-three}
-use Rattle.cargo_lock_metadata.specs.Identity.{IdentityTexts, identity_cmp}
+use Rattle.cargo_lock_metadata.specs.Identity.{identity_cmp}
 
 -- identities that tie are one
 pub identity-anti : IsAntisymmetric identity_cmp

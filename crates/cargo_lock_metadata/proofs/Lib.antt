@@ -1,2 +1,4 @@
 mod Walk
 mod Identities
+mod Indexing
+mod Belongings

@@ -1,7 +1,5 @@
--- What distinguishes a package from others, as texts, and the packages of a document that belong to
--- those of a lockfile.
-use Rattle.std.specs.Prelude.{◌≡◌, ◌<◌, ◌⊎◌, ℕ, List, Option, None, Some, false, length, map}
-use Rattle.std.specs.Prelude.{option_map, slice_get}
+-- What distinguishes a package from others, as texts.
+use Rattle.std.specs.Prelude.{ℕ, List, Option, false, option_map}
 use Rattle.std.specs.Cmp.{IsTotalOrder}
 use Rattle.std.specs.Cmp.Lexicographic.{nat_list_cmp_total}
 use Rattle.std.specs.declared.cmp.Ordering.{Ordering}
@@ -36,36 +34,3 @@ pub identity_total : IsTotalOrder identity_cmp
 identity_total = by_name_version_source-total (λ (i : IdentityTexts). i.name)
     (λ (i : IdentityTexts). i.version) (λ (i : IdentityTexts). i.source)
     nat_list_cmp_total nat_list_cmp_total
-
--- ---- belonging
-
--- the list has the identity at the place
-abbrev pub IsAt : List IdentityTexts → ℕ → IdentityTexts → Type 0
-IsAt identities place identity = slice_get identities place ≡ Some identity
-
--- the place of a document has the identity that the place of a lockfile has
-pub record IsSame (lockfile document : List IdentityTexts) (p q : ℕ) : Type 0 where
-  pub identity : IdentityTexts
-  pub here : IsAt lockfile p identity
-  pub there : IsAt document q identity
-
--- The place p of a lockfile has the place q of a document, or none. What it has is below the bound
--- and of the same identity. Each place below the bound is that of one p, and of no other.
-pub record Belong (lockfile document : List IdentityTexts) (bound : ℕ) (places : List (Option ℕ))
-    : Type 0
-  where
-    pub count : length places ≡ length lockfile
-    pub same : (p q : ℕ) → slice_get places p ≡ Some (Some q) → (q < bound)
-        × IsSame lockfile document p q
-    pub each : (q : ℕ) → q < bound → (p : ℕ) × (slice_get places p ≡ Some (Some q))
-    pub once : (o p q : ℕ) → slice_get places o ≡ Some (Some q) → slice_get places p ≡ Some (Some q)
-        → o ≡ p
-
--- A place of the document belongs to no package of the lockfile: none has its identity, or a place
--- before it has the same one.
-pub record IsForeign (lockfile document : List IdentityTexts) (q : ℕ) (identity : IdentityTexts)
-    : Type 0
-  where
-    pub there : IsAt document q identity
-    pub why : ((p : ℕ) → ¬ IsAt lockfile p identity)
-        ⊎ ((earlier : ℕ) × (earlier < q) × IsAt document earlier identity)

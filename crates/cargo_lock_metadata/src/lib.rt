@@ -2,9 +2,14 @@
 //! `cargo metadata --locked --format-version 1` prints.
 #![tactic(auto)]
 
+pub mod belonging;
 pub mod document;
 mod fields;
 pub mod identity;
+mod index;
+pub mod name_and_version;
 
+pub use crate::belonging::{BelongingError, document_places};
 pub use crate::document::{About, DependencyKind, Document, DocumentPackage, Node, NodeDependency};
 pub use crate::identity::PlainIdentity;
+pub use crate::name_and_version::NameAndVersion;
