@@ -1,5 +1,5 @@
 -- The groups of the keys of a list.
-use Rattle.std.proofs.Common.{◌≡◌, ◌+◌, ◌∙◌, ℕ, List, [], MatchOption, Option, None, Some, ap, arith, get_or, length, slice_get, subst, sym, unwrap_or}
+use Rattle.std.proofs.Common.{◌≡◌, ◌<◌, ◌≤◌, ◌+◌, ◌∙◌, add-one, ℕ, zero, suc, List, [], MatchOption, Option, None, Some, ap, arith, get_or, length, slice_get, subst, sym, unwrap_or}
 use Rattle.std.specs.Borrow.{Bor}
 use Rattle.std.specs.Cmp.{IsTotalOrder, on_total}
 use Rattle.std.specs.declared.cmp.Ordering.{Ordering}
@@ -8,8 +8,10 @@ use Rattle.std.proofs.lemmas.Cmp.{tied_itself}
 use Rattle.std.proofs.lemmas.Option.{slice_get-get_or, slice_get_within}
 use Rattle.lists.specs.Groups.{AreGroups, AreKeys, GroupedData, HasPutByKey, group_number}
 use Rattle.lists.proofs.Groupings.{groups-put}
-use Rattle.lists.proofs.Members.{got-in, same-at}
-use Rattle.cargo_lock_metadata.specs.Index.{IsTied, IsTiedAt, borrowed_cmp}
+use Rattle.lists.proofs.Members.{got-in, same-at, same-place}
+use Rattle.std.specs.List.{Contains}
+use Rattle.std.specs.List.Sorted.{IsStrictlyIncreasing}
+use Rattle.cargo_lock_metadata.specs.Index.{IsFirstTied, IsTied, IsTiedAt, borrowed_cmp}
 
 -- the order of borrowed keys is total
 pub borrowed-total : {K : Type 0} {cmp : K → K → Ordering} → IsTotalOrder cmp → IsTotalOrder (borrowed_cmp cmp)
@@ -41,14 +43,33 @@ tied-none cmp keys bound g key count h none place tied =
     let low = slice_get_within keys place tied.0 tied.1 in
     h.none key none place (omega (arith, low, count)) tied
 
+-- the first place of a list in ascending order is the least
+first-below : (places : List ℕ) (i : ℕ) → IsStrictlyIncreasing places → i < length places → get_or places 0 0 ≤ get_or places i 0
+first-below places zero up low = omega arith
+first-below places (suc i) up low =
+    let before = first-below places i up (omega (arith, low)) in
+    let next : get_or places i 0 < get_or places (suc i) 0 = subst (λ n. get_or places i 0 < get_or places n 0) (add-one i) (up i (omega (arith, low))) in
+    omega (arith, before, next)
+
+first-least : (places : List ℕ) (k : ℕ) → IsStrictlyIncreasing places → Contains places k → k < get_or places 0 0 → ⊥
+first-least places k up (i, there, same) low =
+    let before = first-below places i up there in
+    let is : get_or places i 0 ≡ k = same-place places i k 0 there ∙ same in
+    omega (arith, before, is, low)
+
 -- the first place of the group has the key
-pub tied-first : {K : Type 0} (cmp : K → K → Ordering) (keys : List K) (bound : ℕ) (g : GroupedData (Bor K)) (key : Bor K) (n : ℕ) (places : List ℕ) (o : Option ℕ)
+pub tied-first : {K : Type 0} (cmp : K → K → Ordering) (keys : List K) (bound : ℕ) (g : GroupedData (Bor K)) (key : Bor K) (n : ℕ) (places : List ℕ) (o : Option ℕ) → length keys ≡ bound
     → AreGroups (borrowed_cmp cmp) (IsTied cmp keys) bound g → group_number (borrowed_cmp cmp) g key ≡ Some n
     → places ≡ unwrap_or (slice_get g.groups n) [] → o ≡ slice_get places 0
-    → MatchOption o ((place : ℕ) → ¬ IsTiedAt cmp keys key.now place) (IsTiedAt cmp keys key.now)
-tied-first cmp keys bound g key n places o h is are first =
+    → MatchOption o ((place : ℕ) → ¬ IsTiedAt cmp keys key.now place) (IsFirstTied cmp keys key.now)
+tied-first cmp keys bound g key n places o count h is are first =
     let (group, at, some, listed) = h.found key n is in
     let same : places ≡ group = are ∙ ap (λ (p : Option (List ℕ)). unwrap_or p []) at in
     let here : slice_get group 0 ≡ Some (get_or group 0 0) = slice_get-get_or group 0 0 some in
     let found : o ≡ Some (get_or group 0 0) = first ∙ ap (λ (ps : List ℕ). slice_get ps 0) same ∙ here in
-    rw found (((listed.listed (get_or group 0 0)).0 (got-in group 0 (get_or group 0 0) here)).1)
+    rw found (
+      ((listed.listed (get_or group 0 0)).0 (got-in group 0 (get_or group 0 0) here)).1,
+      λ k low tied.
+          let within = slice_get_within keys k tied.0 tied.1 in
+          first-least group k listed.ascending ((listed.listed k).1 (omega (arith, within, count), tied)) low,
+    )

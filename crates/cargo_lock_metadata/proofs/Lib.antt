@@ -2,3 +2,6 @@ mod Walk
 mod Identities
 mod Indexing
 mod Belongings
+mod Stepping
+mod Rooting
+mod KindLaws

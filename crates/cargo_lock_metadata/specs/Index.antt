@@ -1,5 +1,5 @@
 -- The places of keys in a list. No public contract cites these.
-use Rattle.std.specs.Prelude.{◌≡◌, ℕ, List, Some, slice_get}
+use Rattle.std.specs.Prelude.{◌≡◌, ◌<◌, ℕ, List, Some, slice_get}
 use Rattle.std.specs.Borrow.{Bor}
 use Rattle.std.specs.declared.cmp.Ordering.{Ordering}
 use Rattle.std.specs.declared.cmp.Ordering.TheVariants.{Equal}
@@ -8,6 +8,11 @@ use Rattle.std.specs.declared.cmp.Ordering.TheVariants.{Equal}
 abbrev pub IsTiedAt : {K : Type 0} → (K → K → Ordering) → List K → K → ℕ → Type 0
 IsTiedAt {K = K} cmp keys key place = (k : K) × (slice_get keys place ≡ Some k)
     × (cmp key k ≡ Equal)
+
+-- it is the first of these places
+abbrev pub IsFirstTied : {K : Type 0} → (K → K → Ordering) → List K → K → ℕ → Type 0
+IsFirstTied cmp keys key place = IsTiedAt cmp keys key place
+    × ((k : ℕ) → k < place → ¬ IsTiedAt cmp keys key k)
 
 -- borrowed keys compare as the keys do
 abbrev pub borrowed_cmp : {K : Type 0} → (K → K → Ordering) → Bor K → Bor K → Ordering

@@ -2,7 +2,7 @@
 
 ghost use Rattle.std.specs.Prelude.{◌≡◌, ℕ, IfOk, MatchOption, length, map};
 ghost use Rattle.lists.specs.Groups.{AreGroups};
-ghost use Rattle.cargo_lock_metadata.specs.Index.{IsTied, IsTiedAt, borrowed_cmp};
+ghost use Rattle.cargo_lock_metadata.specs.Index.{IsFirstTied, IsTied, IsTiedAt, borrowed_cmp};
 
 use lists::Grouped;
 use std::alloc::{AllocError, Global};
@@ -47,7 +47,7 @@ impl<'a, K: Ord + Drop> Index<'a, K> {
     /// The first place of a key.
     pub(crate) fn place(&self, key: &'a K) -> Option<usize>
         ensures { MatchOption result ((place : ℕ) → ¬ IsTiedAt K.cmp self.now key.now place)
-            (IsTiedAt K.cmp self.now key.now) }
+            (IsFirstTied K.cmp self.now key.now) }
     {
         match self.groups.number(&key) {
             Some(number) => self.groups.places(number).first().copied(),

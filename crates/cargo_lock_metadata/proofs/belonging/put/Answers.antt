@@ -8,16 +8,16 @@ returns-in-None-clause-taken c = λ _. inl (λ p at. c.in-None.ensures p (tied-a
 
 pub put_at-requires : goal.put_at-requires
 put_at-requires c =
-    let low = slice_get_within c.args.index.now c.in-Some.own c.in-Some.ensures.0 c.in-Some.ensures.1 in
+    let low = slice_get_within c.args.index.now c.in-Some.own c.in-Some.ensures.0.0 c.in-Some.ensures.0.1 in
     let count = c.requires in
     omega (arith, low, count)
 
 pub returns-in-Some-clause-put : goal.returns-in-Some-clause-put
 returns-in-Some-clause-put c = λ e.
     let r = c.put_at.ensures.put e in
-    (c.in-Some.own, at-tied c.args.index.now c.args.identity.now c.in-Some.own c.in-Some.ensures, r.0, r.1)
+    (c.in-Some.own, at-tied c.args.index.now c.args.identity.now c.in-Some.own c.in-Some.ensures.0, r.0, r.1)
 
 pub returns-in-Some-clause-taken : goal.returns-in-Some-clause-taken
 returns-in-Some-clause-taken c = λ e.
     let r = c.put_at.ensures.taken e in
-    inr (c.in-Some.own, r.0, at-tied c.args.index.now c.args.identity.now c.in-Some.own c.in-Some.ensures, r.1)
+    inr (c.in-Some.own, r.0, at-tied c.args.index.now c.args.identity.now c.in-Some.own c.in-Some.ensures.0, r.1)
