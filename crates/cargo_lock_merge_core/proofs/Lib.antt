@@ -47,3 +47,4 @@ pub mod Backwards
 pub mod ByPlaces
 pub mod Listings
 pub mod Origins
+pub mod Favouring

@@ -6,6 +6,7 @@ pub mod commits;
 pub mod conflicts;
 pub mod disputes;
 pub mod entry;
+pub mod favour;
 pub mod laws;
 mod linked;
 mod member_counts;
