@@ -1,5 +1,5 @@
 -- What a list with a favoured side has so far.
-use Rattle.std.proofs.Common.{◌≡◌, ◌⊎◌, ◌↔◌, ◌+◌, ◌++◌, ◌∷◌, [], Bool, true, false, if◌then◌else◌, MatchOption, is_some, refl, ◌<◌, ◌≤◌, ◌∙◌, inl, inr, ℕ, List, Option, Some, None, length, get_or, take, map, sym, ap, subst, arith, All}
+use Rattle.std.proofs.Common.{◌≡◌, ◌⊎◌, ◌↔◌, ◌+◌, ◌++◌, ◌∷◌, [], Bool, true, false, if◌then◌else◌, MatchOption, is_some, refl, ◌<◌, ◌≤◌, ◌∙◌, inl, inr, ℕ, List, Option, Some, None, length, get_or, slice_index_or, take, map, sym, ap, subst, arith, All}
 use Rattle.std.specs.List.{Contains}
 use Rattle.std.specs.List.Sorted.{IsStrictlyIncreasing}
 use Rattle.std.proofs.lemmas.List.{get_or-map, length-map, map-append, take_all}
@@ -8,7 +8,7 @@ use Rattle.cargo_lock_merge_core.specs.declared.commits.SourceCommits.{SourceCom
 use Rattle.cargo_lock_merge_core.specs.declared.placed.Placed.{Placed}
 use Rattle.cargo_lock_merge_core.specs.Disputes.{HasNoDispute, IsDisputeOf, source_key}
 use Rattle.cargo_lock_merge_core.specs.Commits.{Lockfiles}
-use Rattle.cargo_lock_merge_core.specs.Favoured.{HasDisputedAt, HasDisputedSource, IsFavouring}
+use Rattle.cargo_lock_merge_core.specs.Favoured.{ArePlaces, HasDisputedAt, HasDisputedSource, IsFavouring, IsOfEither}
 use Rattle.cargo_lock_merge_core.specs.Numbered.{IsInOrder, all_data, data_if, place_number, place_numbers, placed_data}
 use Rattle.cargo_lock_merge_core.specs.Placed.{HasAt, IsAt, PlacedData}
 use Rattle.cargo_lock_merge_core.proofs.Finding.{place-among, place-at}
@@ -148,3 +148,49 @@ module _ (commits : Lockfiles) (list : List Placed) (i : ℕ) (x : Placed) (low 
 -- such places are places of the list
 pub disputed-among : (commits : Lockfiles) (xs : List (PlacedData ℕ)) (p : ℕ) → HasDisputedAt commits xs p → Contains (place_numbers xs) p
 disputed-among commits xs p (x, at, has) = subst (Contains (place_numbers xs)) at.1 (place-among xs x at.0)
+
+-- ---- places of several kinds
+
+-- the places of two kinds together
+pub places-joined : (P Q : ℕ → Type 0) (ps qs all : List ℕ) → ArePlaces P ps → ArePlaces Q qs → IsStrictlyIncreasing all
+    → ((p : ℕ) → Contains all p ↔ (Contains ps p ⊎ Contains qs p)) → ArePlaces (λ p. P p ⊎ Q p) all
+places-joined P Q ps qs all is is' up holds = record {
+  ascending = up;
+  holds = λ p. (
+    λ h. elim ((holds p).0 h) [
+      | inl k ↦ inl ((is.holds p).0 k)
+      | inr k ↦ inr ((is'.holds p).0 k)
+    ],
+    λ h. elim h [
+      | inl k ↦ (holds p).1 (inl ((is.holds p).1 k))
+      | inr k ↦ (holds p).1 (inr ((is'.holds p).1 k))
+    ],
+  );
+}
+
+-- a list with a favourite at the places of a list is one at the places of a kind
+pub favouring-places : (P : ℕ → Type 0) (ps : List ℕ) (fs xs all : List (PlacedData ℕ)) → ArePlaces P ps → IsFavouring (Contains ps) fs xs all → IsFavouring P fs xs all
+favouring-places P ps fs xs all is h = record {
+  disputed = λ p x k. h.disputed p x ((is.holds p).1 k);
+  others = λ p x k. h.others p x (λ c. k ((is.holds p).0 c));
+}
+
+-- dependencies in order
+pub each-ascends : (fs xs all : List (PlacedData ℕ)) → All (λ x. IsStrictlyIncreasing x.dependencies) fs → All (λ x. IsStrictlyIncreasing x.dependencies) xs
+    → All (IsOfEither fs xs) all → All (λ x. IsStrictlyIncreasing x.dependencies) all
+each-ascends fs xs all up up' from k d low =
+    let P : PlacedData ℕ → Type 0 = λ x. IsStrictlyIncreasing x.dependencies in
+    let x = slice_index_or all k d in
+    elim (from k d low) [
+      | inl h ↦ All-contains P fs x up h
+      | inr h ↦ All-contains P xs x up' h
+    ]
+
+pub of-either : (ds : List ℕ) (fs xs all : List (PlacedData ℕ)) → All (IsFrom ds fs xs) all → All (IsOfEither fs xs) all
+of-either ds fs xs all each k d low = elim (each k d low) [
+  | inl h ↦ inl h.1
+  | inr h ↦ inr h.1
+]
+
+pub places-of : (P : ℕ → Type 0) (xs ys : List ℕ) → xs ≡ ys → ArePlaces P ys → ArePlaces P xs
+places-of P xs ys e is = subst (ArePlaces P) (sym e) is

@@ -2,7 +2,7 @@ use Rattle.std.proofs.Common.{◌≡◌, ◌⊎◌, ◌↔◌, ◌∙◌, ℕ, L
 use Rattle.std.specs.List.{Contains}
 use Rattle.std.specs.List.Sorted.{IsStrictlyIncreasing}
 use Rattle.cargo_lock_merge_core.specs.Numbered.{all_data, data_if, place_numbers}
-use Rattle.cargo_lock_merge_core.proofs.Favouring.{IsPicked, each-more, favouring, kept-more, kept-same, picked}
+use Rattle.cargo_lock_merge_core.proofs.Favouring.{IsPicked, each-more, favouring, kept-more, kept-same, of-either, picked}
 use Rattle.cargo_lock_merge_core.proofs.Kept.{below-later}
 use Rattle.cargo_lock_merge_core.proofs.favour.with_favourite.Goals as goal
 use Rattle.cargo_lock_merge_core.proofs.favour.with_favourite.Goals.{in-Some+in_ok-push-in-Some, in-None}
@@ -21,7 +21,7 @@ loop-place-preserved c =
     let f = c.package_of-favoured.ensures in
     let o = c.package_of-own.ensures in
     let at : IsPicked ds fs xs (get_or places i 0) (data_if c.chosen.result) = rw c.chosen.ensures
-        (picked ds fs xs c.has_place-is_disputed.result c.package_of-favoured.result c.package_of-own.result (get_or places i 0) d.found f.found o.found) in
+    (picked ds fs xs c.has_place-is_disputed.result c.package_of-favoured.result c.package_of-own.result (get_or places i 0) d.found f.found o.found) in
     let o' = c.chosen.result in
     record {
       kept = elim c.match-chosen.branch [
@@ -49,6 +49,10 @@ returns-clause-favouring c =
     let o : c.deref-2.result.now ≡ place_numbers xs = c.deref-2.ensures.value ∙ c.in_ok-own.ensures in
     let holds = subst (λ (zs : List ℕ). (p : ℕ) → Contains zs p ↔ (Contains c.deref.result.now p ⊎ Contains c.deref-2.result.now p)) (sym c.deref-place-items.ensures.value) c.in_ok-places.ensures.holds in
     let holds' = subst (λ (zs : List ℕ). (p : ℕ) → Contains places p ↔ (Contains (place_numbers fs) p ⊎ Contains zs p)) o
-        (subst (λ (zs : List ℕ). (p : ℕ) → Contains places p ↔ (Contains zs p ⊎ Contains c.deref-2.result.now p)) f holds) in
+    (subst (λ (zs : List ℕ). (p : ℕ) → Contains places p ↔ (Contains zs p ⊎ Contains c.deref-2.result.now p)) f holds) in
     let end = c.loop-place-test.false in
     favouring c.args.disputed.now fs xs (all_data l.all.items) places l.place-index c.requires.favourite c.requires.list holds' l.invariant.kept l.invariant.each (omega (arith, end))
+
+pub returns-clause-from : goal.returns-clause-from
+returns-clause-from c =
+    of-either c.args.disputed.now (all_data c.args.favourite.now) (all_data c.args.list.now) (all_data c.loop-place.all.items) c.loop-place.invariant.each
