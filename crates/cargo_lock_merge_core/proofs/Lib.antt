@@ -48,3 +48,4 @@ pub mod ByPlaces
 pub mod Listings
 pub mod Origins
 pub mod Favouring
+pub mod Within

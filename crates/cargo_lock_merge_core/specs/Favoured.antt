@@ -84,3 +84,8 @@ pub record ArePlaces (IsThere : ℕ → Type 0) (places : List ℕ) : Type 0 whe
 pub record AreFavoured (disputed : List ℕ) (favourite old new : List (PlacedData ℕ)) : Type 0 where
   pub ascending : AreAscending new
   pub favouring : IsFavouring (Contains disputed) favourite old new
+
+-- the package refers to these places alone, by a dependency or by its replacement
+abbrev pub RefersWithin : List ℕ → PlacedData ℕ → Type 0
+RefersWithin places x = (d : ℕ) → (Contains x.dependencies d ⊎ (x.replacement ≡ Some d))
+    → Contains places d

@@ -2,6 +2,7 @@
 #![tactic(auto)]
 
 mod choices;
+pub mod closed;
 pub mod commits;
 pub mod conflicts;
 pub mod disputes;
@@ -20,7 +21,7 @@ pub mod plan;
 mod reach;
 mod references;
 pub mod refusal;
-mod repositories;
+pub mod repositories;
 pub mod rows;
 pub mod rule3;
 mod sets;
