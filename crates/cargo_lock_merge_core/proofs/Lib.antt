@@ -47,3 +47,5 @@ pub mod Backwards
 pub mod ByPlaces
 pub mod Listings
 pub mod Origins
+pub mod Favouring
+pub mod Within
