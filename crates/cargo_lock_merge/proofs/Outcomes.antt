@@ -15,6 +15,7 @@ use Rattle.cargo_lock_merge_core.specs.Moved.{AreListedPackages}
 use Rattle.cargo_lock_merge_core.specs.Plans.{IsNumbered, IsPlan}
 use Rattle.cargo_lock_merge_core.specs.Triples.{AreSidesOf}
 use Rattle.cargo_lock_merge_core.proofs.Assembling.{assembled-merge, list-closed, list-numbered}
+use Rattle.cargo_lock_merge_core.proofs.Landing.{closed-both}
 use Rattle.lists.proofs.Members.{none-in}
 use Rattle.cargo_lock_merge_core.proofs.Zipping.{zip-left, zip-right}
 use Rattle.cargo_lock_merge.specs.declared.conflict.Conflict.{Conflict}
@@ -30,8 +31,7 @@ ready all s (places, are) = record {
   base = list-numbered all places all.base s.base are.base are.base_commits;
   ours = list-numbered all places all.ours s.ours are.ours are.our_commits;
   theirs = list-numbered all places all.theirs s.theirs are.theirs are.their_commits;
-  ours_closed = list-closed all places all.ours s.ours are.ours;
-  theirs_closed = list-closed all places all.theirs s.theirs are.theirs;
+  closed = closed-both s.ours s.theirs (list-closed all places all.ours s.ours are.ours) (list-closed all places all.theirs s.theirs are.theirs);
 }
 
 -- and their plan is one of a merge
@@ -40,8 +40,7 @@ has-plan s plan r is = record {
   base = r.base;
   ours = r.ours;
   theirs = r.theirs;
-  ours_closed = r.ours_closed;
-  theirs_closed = r.theirs_closed;
+  closed = r.closed;
   plan = is;
 }
 

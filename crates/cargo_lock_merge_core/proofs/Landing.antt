@@ -9,7 +9,7 @@ use Rattle.lists.specs.Chains.{IsChain}
 use Rattle.cargo_lock_merge_core.specs.Merge.{IsReachedInMerge, IsRootOfMerge, LeadsToInMerge, Triple}
 use Rattle.cargo_lock_merge_core.specs.Numbered.{place_numbers}
 use Rattle.cargo_lock_merge_core.specs.Placed.{HasAt, HasOneAtEach, IsAt, PlacedData}
-use Rattle.cargo_lock_merge_core.specs.Plans.{AreClosed}
+use Rattle.cargo_lock_merge_core.specs.Plans.{AreClosed, IsClosed}
 use Rattle.cargo_lock_merge_core.specs.Rule3.{IsKept, IsMergedValue}
 use Rattle.cargo_lock_merge_core.proofs.Ascending.{far-below}
 use Rattle.cargo_lock_merge_core.proofs.Finding.{place-among}
@@ -109,6 +109,11 @@ module _ (s : Triple ℕ) (closed : AreClosed s.ours s.theirs) where
   pub reached-there : (p : ℕ) → IsReachedInMerge s p → Contains (place_numbers s.ours) p ⊎ Contains (place_numbers s.theirs) p
   unfolding IsThere
   reached-there p h = chain-there h.0 h.1 p (root-there h.0 h.2) h.3
+
+-- lists that are closed each are closed together
+pub closed-both : (ours theirs : List (PlacedData ℕ)) → IsClosed ours → IsClosed theirs → AreClosed ours theirs
+closed-both ours theirs o t x d (inl among) refers = let y = o x d among refers in (y.0, inl y.1)
+closed-both ours theirs o t x d (inr among) refers = let y = t x d among refers in (y.0, inr y.1)
 
 -- ascending places are of one package each
 pub one-each : (xs : List (PlacedData ℕ)) → IsStrictlyIncreasing (place_numbers xs) → HasOneAtEach xs
