@@ -49,3 +49,4 @@ pub mod Listings
 pub mod Origins
 pub mod Favouring
 pub mod Within
+pub mod InOrder

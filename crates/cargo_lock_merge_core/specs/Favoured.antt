@@ -54,6 +54,12 @@ abbrev pub own_side : {P : Type 0} → Side → Triple P → List (PlacedData P)
 own_side Ours s = s.ours
 own_side Theirs s = s.theirs
 
+-- the three lists of a merge in which the side is favoured
+pub record IsFavouredTriple {P : Type 0} (side : Side) (s new : Triple P) : Type 0 where
+  pub base : IsFavouring (IsDisputedPlace s) (own_side side s) s.base new.base
+  pub own : own_side side new ≡ own_side side s
+  pub other : IsFavouring (IsDisputedPlace s) (own_side side s) (other_side side s) (other_side side new)
+
 -- the lists are those of a merge in which the side is favoured
 pub record IsFavoured (side : Side) (s : Triple ℕ) (f : Favoured) : Type 0 where
   pub base : IsFavouring (IsDisputedPlace s) (own_side side s) s.base (all_data f.base.items)
