@@ -1,7 +1,7 @@
-use Rattle.std.proofs.Common.{◌≡◌, ◌∙◌, ◌++◌, List, Option, ap, subst}
+use Rattle.std.proofs.Common.{◌∙◌, ◌++◌, List, Option, ap, subst}
 use Rattle.std.specs.Option.{option_or}
 use Rattle.cargo_lock_encoding.specs.Lockfiles.{LockfileData}
-use Rattle.cargo_lock_parts.specs.Identity.{Identity, PackageData}
+use Rattle.cargo_lock_parts.specs.Identity.{PackageData}
 use Rattle.cargo_lock_parts.specs.Source.{Source}
 use Rattle.cargo_lock_merge.specs.Spellings.{HasPutFirst, first_same, sources_of_identities, sources_of_packages}
 use Rattle.cargo_lock_merge.proofs.PuttingSpellings.{at-empty, put-more}
