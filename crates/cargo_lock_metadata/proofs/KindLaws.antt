@@ -5,7 +5,7 @@ use Rattle.lists.specs.Chains.{IsChain}
 use Rattle.cargo_lock_metadata.specs.Counts.{is_same_kind}
 use Rattle.cargo_lock_metadata.specs.Document.{DocumentData, DocumentPackageData, NodeDependencyData}
 use Rattle.cargo_lock_metadata.specs.Laws.{CountsAddUp, KindsAreExclusive, KindsCoverAll, MoreEdgesReachMore, MoreRootsShipMore, RootsAreShipped}
-use Rattle.cargo_lock_metadata.specs.Steps.{IsAmongEdges, IsKindBy, IsReached, LeadsToPackage}
+use Rattle.cargo_lock_metadata.specs.Steps.{IsAmongEdges, IsKindBy, IsReached, LeadsToPackageAt}
 use Rattle.cargo_lock_metadata.specs.declared.kinds.Edges.{Edges}
 use Rattle.cargo_lock_metadata.specs.declared.kinds.Edges.TheVariants as edges
 use Rattle.cargo_lock_metadata.specs.declared.kinds.Kind.{Kind}
@@ -19,14 +19,14 @@ chain-more R S to a [] end h = h
 chain-more R S to a (b ∷ bs) end h = (to a b h.0, chain-more R S to b bs end h.1)
 
 leads-more : (document : DocumentData) (few many : Edges) → ((d : NodeDependencyData) (p : DocumentPackageData) → IsAmongEdges few d p → IsAmongEdges many d p)
-    → (a b : ℕ) → LeadsToPackage document few a b → LeadsToPackage document many a b
+    → (a b : ℕ) → LeadsToPackageAt document few a b → LeadsToPackageAt document many a b
 leads-more document few many to a b (p, at, (k, n, first, there, (d, among, (t, id, here, is)))) =
     (p, at, (k, n, first, there, (d, among, (t, id, here, to d t is))))
 
 reached-more : (document : DocumentData) (roots : List ℕ) (few many : Edges) → ((d : NodeDependencyData) (p : DocumentPackageData) → IsAmongEdges few d p → IsAmongEdges many d p)
     → (place : ℕ) → IsReached document roots few place → IsReached document roots many place
 reached-more document roots few many to place (start, chain, root, way) =
-    (start, chain, root, chain-more (LeadsToPackage document few) (LeadsToPackage document many) (leads-more document few many to) start chain place way)
+    (start, chain, root, chain-more (LeadsToPackageAt document few) (LeadsToPackageAt document many) (leads-more document few many to) start chain place way)
 
 build-more : (document : DocumentData) (roots : List ℕ) (place : ℕ) → IsReached document roots edges.Normal place → IsReached document roots edges.Build place
 build-more document roots place h = reached-more document roots edges.Normal edges.Build (λ d p is. inl is.0) place h

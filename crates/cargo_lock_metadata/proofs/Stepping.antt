@@ -1,5 +1,5 @@
 -- Places that are found by an id, and what is reached from one place.
-use Rattle.std.proofs.Common.{◌≡◌, ◌<◌, ◌+◌, ◌∙◌, inl, inr, ℕ, zero, suc, List, [], ◌∷◌, ◌++◌, Global, IfOk, MatchOption, Option, None, Result, Ok, Err, Some, String, ap, arith, length-append, get_or, length, map, option_map, refl, slice_get, string_bytes, subst, sym, take}
+use Rattle.std.proofs.Common.{◌≡◌, ◌<◌, ◌+◌, ◌∙◌, inl, inr, ℕ, List, [], ◌∷◌, ◌++◌, Global, IfOk, MatchOption, Option, None, Result, Ok, Err, Some, String, ap, arith, length-append, get_or, length, map, option_map, refl, slice_get, string_bytes, subst, sym, take}
 use Rattle.std.specs.Borrow.{Bor}
 use Rattle.std.specs.Cmp.Lexicographic.{nat_list_cmp_total, slice_cmp}
 use Rattle.std.specs.Ordering.{nat_cmp}
@@ -26,7 +26,7 @@ use Rattle.cargo_lock_metadata.specs.declared.kinds.Kind.TheVariants.{Absent, Bu
 abbrev pub string_order : String Global → String Global → Ordering
 string_order a b = slice_cmp nat_cmp (string_bytes a) (string_bytes b)
 
-at-map : {X Y : Type 0} (f : X → Y) (xs : List X) (k : ℕ) (y : Y) → slice_get (map f xs) k ≡ Some y → (x : X) × (slice_get xs k ≡ Some x) × (f x ≡ y)
+at-map : {X : Type 0} (f : X → List ℕ) (xs : List X) (k : ℕ) (y : List ℕ) → slice_get (map f xs) k ≡ Some y → (x : X) × (slice_get xs k ≡ Some x) × (f x ≡ y)
 at-map {X} f xs k y h = elim (slice_get xs k) as (λ o. slice_get xs k ≡ o → option_map f o ≡ Some y → (x : X) × (slice_get xs k ≡ Some x) × (f x ≡ y)) [
   | None ↦ λ e g. cc g
   | Some x ↦ λ e g. (x, e, same_Some (f x) y g)
@@ -73,7 +73,7 @@ first-once keys key a b f g = elim (cases_order a b) [
 ]
 
 -- what is read at the place
-pub read-first : {X : Type 0} {Y : Type 0} (f : X → Y) (xs : List X) (k : ℕ) (y : Y) (x : X) → IsFirstPlace (map f xs) y k → x ≡ get_or xs k x → slice_get xs k ≡ Some x
+pub read-first : {X : Type 0} (f : X → List ℕ) (xs : List X) (k : ℕ) (y : List ℕ) (x : X) → IsFirstPlace (map f xs) y k → x ≡ get_or xs k x → slice_get xs k ≡ Some x
 read-first f xs k y x first is =
     let (z, at, same) = at-map f xs k y first.here in
     slice_get_read xs (length xs) k x refl (slice_get_within xs k z at) is

@@ -46,13 +46,13 @@ NodeLeadsTo document which id place = (k : ℕ) × (n : NodeData)
     × OneLeadsTo (DependsOnPackage document.packages which) n.dependencies place
 
 -- the package at a has a dependency that leads to the package at b
-abbrev pub LeadsToPackage : DocumentData → Edges → (a b : ℕ) → Type 0
-LeadsToPackage document which a b = (p : DocumentPackageData) × (slice_get document.packages a ≡ Some p)
+abbrev pub LeadsToPackageAt : DocumentData → Edges → (a b : ℕ) → Type 0
+LeadsToPackageAt document which a b = (p : DocumentPackageData) × (slice_get document.packages a ≡ Some p)
     × NodeLeadsTo document which p.id b
 
 -- a chain of these edges leads to the package at the place from one of the roots
 abbrev pub IsReached : DocumentData → (roots : List ℕ) → Edges → ℕ → Type 0
-IsReached document roots which = IsReachedFrom (Contains roots) (LeadsToPackage document which)
+IsReached document roots which = IsReachedFrom (Contains roots) (LeadsToPackageAt document which)
 
 -- ---- kinds
 

@@ -13,7 +13,9 @@ ghost use Rattle.cargo_lock_metadata.specs.Document.{is_macro_kind, is_macro_pac
 ghost use Rattle.cargo_lock_metadata.specs.Document.{is_macro_target, kind_in, node_in, nodes_in};
 ghost use Rattle.cargo_lock_metadata.specs.Document.{document_package_in};
 
-use crate::fields::{FromJson, list_at, text_by_key, text_unless_null_by_key, texts_at, texts_in, value_at};
+use crate::fields::{
+    FromJson, list_at, text_by_key, text_unless_null_by_key, texts_at, texts_in, value_at,
+};
 use crate::identity::PlainIdentity;
 use cargo_lock_parts::error::{Error, Result};
 use serde_json::Value;

@@ -78,7 +78,11 @@ pub(crate) fn text_by_key(alloc: Global, value: &Value, key: &str) -> Result<Str
 }
 
 /// The text at a key, or `None` for null.
-pub(crate) fn text_unless_null_by_key(alloc: Global, value: &Value, key: &str) -> Result<Option<String>>
+pub(crate) fn text_unless_null_by_key(
+    alloc: Global,
+    value: &Value,
+    key: &str,
+) -> Result<Option<String>>
     ensures { Reads (option_map string_bytes) result (text_unless_null_by_key key.now (view value.now)) }
 {
     let found = value_at(alloc, value, key)?;

@@ -3,7 +3,7 @@
 ghost use Rattle.std.specs.Prelude.{◌≡◌, ◌↔◌, ◌<◌, ℕ, IfOk, IsTrue, MatchOption, length, map};
 ghost use Rattle.std.specs.Prelude.{string_bytes};
 ghost use Rattle.std.specs.List.{Contains};
-ghost use Rattle.cargo_lock_metadata.specs.Steps.{DependsOnPackage, HasId, IsAmongEdges, IsNodeOfPackage, LeadsToPackage};
+ghost use Rattle.cargo_lock_metadata.specs.Steps.{DependsOnPackage, HasId, IsAmongEdges, IsNodeOfPackage, LeadsToPackageAt};
 ghost use Rattle.cargo_lock_metadata.specs.declared.kinds.Edges.{Edges};
 
 use crate::document::{DependencyKind, Document, DocumentPackage, Node, NodeDependency};
@@ -58,7 +58,7 @@ impl<'a> Graph<'a> {
     pub(crate) fn node(&self, place: usize) -> Option<&'a Node>
         requires { place < length self.now.packages }
         ensures { MatchOption result
-            ((which : Edges) (b : ℕ) → ¬ LeadsToPackage self.now which place b)
+            ((which : Edges) (b : ℕ) → ¬ LeadsToPackageAt self.now which place b)
             (λ node. IsNodeOfPackage self.now place node.now) }
     {
         let document = self.document;

@@ -6,7 +6,7 @@ ghost use Rattle.lists.specs.Chains.{OneLeadsTo};
 ghost use Rattle.lists.specs.Marks.{IsMarked};
 ghost use Rattle.lists.specs.Reach.{HasReached};
 ghost use Rattle.cargo_lock_metadata.specs.Steps.{AreKinds, AreKindsBy, AreMarksOfReached, DependsOnPackage};
-ghost use Rattle.cargo_lock_metadata.specs.Steps.{IsKindBy, LeadsToPackage, kind_text};
+ghost use Rattle.cargo_lock_metadata.specs.Steps.{IsKindBy, LeadsToPackageAt, kind_text};
 ghost use Rattle.cargo_lock_metadata.specs.declared.kinds.Edges.TheVariants as edges;
 
 use crate::document::{Document, Node};
@@ -183,7 +183,7 @@ fn follow(
 ) -> Result<(), AllocError>
     requires count { length search.old.marks ≡ length graph.now.packages }
     requires within { place < length graph.now.packages }
-    ensures { OnOk result (HasReached (LeadsToPackage graph.now which place) search.old search.new) }
+    ensures { OnOk result (HasReached (LeadsToPackageAt graph.now which place) search.old search.new) }
 {
     match graph.node(place) {
         Some(node) => follow_node(search, graph, node, which),
