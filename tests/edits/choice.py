@@ -103,14 +103,18 @@ def states_of(crates):
     return found
 
 
-def sample(states, seed, count):
+def sample(states, seed, count, most):
     """Draws edits over all crates: first of those whose line is void, then of those whose line is
-    of another logic, then of the others. Those that change no function are not drawn, since each
-    takes a check of its whole crate."""
+    of another logic, then of the others. They are of at most so many crates, where these have
+    enough, since a check of one takes long, however few it tries. Edits that change no function are
+    not drawn: each takes a check of its whole crate."""
     drawn, found = random.Random(seed), []
     for name in (record.VOID, record.OTHER_LOGIC, record.HOLDS):
         able = [pair for pair in states[name] if pair[1].places]
-        found += drawn.sample(able, min(len(able), count - len(found)))
+        drawn.shuffle(able)
+        crates = list(dict.fromkeys(crate.name for crate, _ in able))[:most]
+        able.sort(key=lambda pair: pair[0].name not in crates)
+        found += able[: count - len(found)]
     return found
 
 

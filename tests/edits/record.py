@@ -25,8 +25,6 @@ HEAD = """\
 LIMIT = re.compile(r"ran out of|could not tell|no verdict|too many steps|out of memory")
 # An import of Rust names, which no other crate sees. (One for the names of clauses is `ghost use`.)
 IMPORT = re.compile(r"(?m)^use ([^;]*);\n")
-# A free function that no other crate can call. (The library of a crate has no contract of it.)
-HIDDEN = re.compile(r"(pub\(\w+\) )?(const )?(unsafe )?fn ")
 # The files of proofs/ that hold the proof of one function, which no other crate can read.
 OF_FUNCTION = ("Answers.antt", "Invariants.antt", "Proof.antt")
 # How a line of the record holds.
@@ -145,16 +143,25 @@ def sum_of_seen(folder):
 
 def seen_of(file, text):
     """Returns a source, in the layout of `rattle fmt`, without comments, empty lines, bodies of
-    functions, free functions that are not public, and imports that only these name."""
+    functions, functions that no other crate can call, and imports that only these name."""
     lines, inside = text.split("\n"), set()
     for it in rule.functions_of(file, text):
-        is_hidden = any(HIDDEN.match(line) for line in lines[it.first - 1 : it.last])
-        first = it.first - 1 if is_hidden else body_of(lines, it)
-        inside.update(range(first, it.last - (0 if is_hidden else 1)))
+        if is_hidden(lines, it):
+            inside.update(range(it.first - 1, it.last))
+        else:
+            inside.update(range(body_of(lines, it), it.last - 1))
     seen = (line for at, line in enumerate(lines) if at not in inside and line.strip())
     left = "".join(f"{line}\n" for line in seen if not line.lstrip().startswith("//"))
     named = {*re.findall(r"\w+", IMPORT.sub("", left))}
     return IMPORT.sub(lambda it: it[0] if brings(it[1], named) else "", left)
+
+
+def is_hidden(lines, function):
+    """Returns whether no other crate can call a function: it is not public, and of no trait. (The
+    library of a crate has no contract of it.)"""
+    head = next(it for it in lines[function.first - 1 :] if rule.FUNCTION.match(it))
+    is_own = function.block and not function.block[0] or not head.startswith(" ")
+    return is_own and not head.lstrip().startswith("pub ")
 
 
 def brings(path, names):

@@ -1,5 +1,5 @@
-"""What the gate asks of the record: whether its lines hold, and a sample of the edits, each tried
-by a check of its own functions alone over the libraries that `rt ci` left."""
+"""What the gate asks of the record: whether its lines hold, and a sample of the edits, those of a
+crate tried by checks of their functions alone over the libraries that `rt ci` left."""
 import os
 import tempfile
 from collections import Counter
@@ -10,9 +10,9 @@ import record
 import rule
 from kit import rt
 
-# How many edits the gate tries: where the bytes hold, or some do not, and where the logic is
-# another.
-USUAL, OF_LOGIC = 20, 100
+# How many edits the gate tries, and of how many crates: where the bytes hold, or some do not, and
+# where the logic is another.
+USUAL, OF_LOGIC = (20, 8), (100, 100)
 # What an edit was seen to take in seconds of one processor where many are tried at once, with its
 # share of the checks without edits.
 SECONDS = 27
@@ -68,31 +68,38 @@ def announce(states, drawn, seed):
               f"{len(drawn)} of {total} tried", flush=True)
 
 
-def is_refused(crate, edit):
-    """Returns whether an edit is refused. The check of its functions alone says so of most;
-    another one is tried over the whole crate."""
-    if edit.bad:
-        return False
-    if rule.try_only(crate, [edit]):
-        return True
-    with tempfile.TemporaryDirectory(prefix="edits-kept-") as kept:
-        return bool(rule.try_round(crate, [edit], kept)) or rule.try_alone(crate, edit, kept)
+def refused_of(crate, edits):
+    """Returns the edits of a crate that are refused. The checks of their functions alone say so of
+    most; another one is tried over the whole crate."""
+    refused = rule.try_only(crate, edits)
+    for edit in [it for it in edits if it not in refused and not it.bad]:
+        with tempfile.TemporaryDirectory(prefix="edits-kept-") as kept:
+            if rule.try_round(crate, [edit], kept) or rule.try_alone(crate, edit, kept):
+                refused = [*refused, edit]
+    return refused
 
 
-def tried(pair):
-    crate, edit = pair
-    found = is_refused(crate, edit)
-    said = "refused" if found else edit.bad or "NOT REFUSED"
-    print(f"{edit.name}: {said}: {record.why(edit)[:160]}", flush=True)
-    return found
+def tried(group):
+    """Tries the edits of a crate, and returns for each whether it is refused."""
+    crate, edits = group
+    refused = refused_of(crate, edits)
+    for edit in edits:
+        said = "refused" if edit in refused else edit.bad or "NOT REFUSED"
+        print(f"{edit.name}: {said}: {record.why(edit)[:160]}", flush=True)
+    return [edit in refused for edit in edits]
+
+
+def groups_of(pairs):
+    """Returns the crates of a sample, each with its edits."""
+    crates = {crate.name: crate for crate, _ in pairs}
+    return [(crate, [edit for of, edit in pairs if of is crate]) for crate in crates.values()]
 
 
 def run(all_edits, seed, lanes):
     """Tries a sample, and returns how many passed and how many failed."""
     states = choice.states_of(all_edits)
-    count = OF_LOGIC if is_of_logic(states) else USUAL
-    drawn = choice.sample(states, seed, count)
+    drawn = choice.sample(states, seed, *(OF_LOGIC if is_of_logic(states) else USUAL))
     announce(states, drawn, seed)
     with ThreadPoolExecutor(lanes) as pool:
-        found = [*pool.map(tried, drawn)]
+        found = [it for group in pool.map(tried, groups_of(drawn)) for it in group]
     return sum(found), len(found) - sum(found)

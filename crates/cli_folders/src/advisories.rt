@@ -197,12 +197,16 @@ impl Reading<'_> {
         if file.advisory.package.as_str() != file.folder.as_str() {
             return Err(database_fault(alloc, &DatabaseFault::OtherPackage(file)));
         }
-        let id = String::from_str(alloc, file.advisory.id.as_str())?;
-        if !self.ids.insert(id)? {
+        if !self.put_id(alloc, file.advisory.id.as_str())? {
             return Err(database_fault(alloc, &DatabaseFault::Twice(file)));
         }
         self.files.push(file)?;
         Ok(())
+    }
+
+    // Adds an id, and returns whether it is new.
+    fn put_id(&mut self, alloc: Global, id: &str) -> Result<bool, AllocError> {
+        Ok(self.ids.insert(String::from_str(alloc, id)?)?)
     }
 }
 
@@ -216,15 +220,13 @@ fn advisory_text<R: Files + AllocGlobal>(rt: &R, name: &str, path: &str) -> Resu
 
 // The advisory that a text at a path has, in the folder of a package. Fails if it has none.
 fn file_of(alloc: Global, package: &str, path: String, text: &str) -> Result<AdvisoryFile, Fault> {
+    let folder = String::from_str(alloc, package)?;
     match Advisory::parse(alloc, text) {
-        Ok(advisory) => {
-            let folder = String::from_str(alloc, package)?;
-            Ok(AdvisoryFile {
-                path,
-                folder,
-                advisory,
-            })
-        }
+        Ok(advisory) => Ok(AdvisoryFile {
+            path,
+            folder,
+            advisory,
+        }),
         Err(error) => Err(database_fault(alloc, &DatabaseFault::Unread(path, error))),
     }
 }
