@@ -1,10 +1,10 @@
 -- Identities that tie are one.
 use Rattle.std.specs.FinMap.{IsAntisymmetric}
 use Rattle.cargo_lock_parts.specs.IdentityLaws.{option_cmp-anti, text_cmp-anti, tied-three}
-use Rattle.cargo_lock_metadata.specs.Identity.{identity_cmp}
+use Rattle.cargo_lock_metadata.specs.Identity.{identity_texts_cmp}
 
 -- identities that tie are one
-pub identity-anti : IsAntisymmetric identity_cmp
+pub identity-anti : IsAntisymmetric identity_texts_cmp
 identity-anti j k e =
     let (names, versions, sources) = tied-three _ _ _ e in
     let name = text_cmp-anti j.name k.name names in

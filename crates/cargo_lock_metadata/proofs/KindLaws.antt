@@ -1,11 +1,11 @@
 -- Laws of kinds and of their counts.
-use Rattle.std.proofs.Common.{◌≡◌, ◌+◌, ◌∙◌, inl, ℕ, cond, List, [], ◌∷◌, count_by, Option, None, Some, ap, arith, length, refl}
-use Rattle.std.specs.List.{Contains}
-use Rattle.lists.specs.Chains.{IsChain, IsReachedFrom}
-use Rattle.cargo_lock_metadata.specs.Counts.{counts_of, is_same_kind}
+use Rattle.std.proofs.Common.{◌≡◌, ◌+◌, inl, ℕ, cond, List, [], ◌∷◌, count_by, Option, None, Some, arith, length, refl}
+use Rattle.std.proofs.lemmas.List.Sums.{sum_by-cons}
+use Rattle.lists.specs.Chains.{IsChain}
+use Rattle.cargo_lock_metadata.specs.Counts.{is_same_kind}
 use Rattle.cargo_lock_metadata.specs.Document.{DocumentData, DocumentPackageData, NodeDependencyData}
-use Rattle.cargo_lock_metadata.specs.Laws.{CountsAddUp, EdgesReachMore, KindsAreExclusive, KindsCoverAll, MoreEdgesReachMore, MoreRootsShipMore, RootsAreShipped}
-use Rattle.cargo_lock_metadata.specs.Steps.{IsAmong, IsKind, IsKindBy, IsReached, LeadsTo}
+use Rattle.cargo_lock_metadata.specs.Laws.{CountsAddUp, KindsAreExclusive, KindsCoverAll, MoreEdgesReachMore, MoreRootsShipMore, RootsAreShipped}
+use Rattle.cargo_lock_metadata.specs.Steps.{IsAmongEdges, IsKindBy, IsReached, LeadsToPackageAt}
 use Rattle.cargo_lock_metadata.specs.declared.kinds.Edges.{Edges}
 use Rattle.cargo_lock_metadata.specs.declared.kinds.Edges.TheVariants as edges
 use Rattle.cargo_lock_metadata.specs.declared.kinds.Kind.{Kind}
@@ -18,15 +18,15 @@ chain-more : {X : Type 0} (R S : X → X → Type 0) → ((a b : X) → R a b �
 chain-more R S to a [] end h = h
 chain-more R S to a (b ∷ bs) end h = (to a b h.0, chain-more R S to b bs end h.1)
 
-leads-more : (document : DocumentData) (few many : Edges) → ((d : NodeDependencyData) (p : DocumentPackageData) → IsAmong few d p → IsAmong many d p)
-    → (a b : ℕ) → LeadsTo document few a b → LeadsTo document many a b
+leads-more : (document : DocumentData) (few many : Edges) → ((d : NodeDependencyData) (p : DocumentPackageData) → IsAmongEdges few d p → IsAmongEdges many d p)
+    → (a b : ℕ) → LeadsToPackageAt document few a b → LeadsToPackageAt document many a b
 leads-more document few many to a b (p, at, (k, n, first, there, (d, among, (t, id, here, is)))) =
     (p, at, (k, n, first, there, (d, among, (t, id, here, to d t is))))
 
-reached-more : (document : DocumentData) (roots : List ℕ) (few many : Edges) → ((d : NodeDependencyData) (p : DocumentPackageData) → IsAmong few d p → IsAmong many d p)
+reached-more : (document : DocumentData) (roots : List ℕ) (few many : Edges) → ((d : NodeDependencyData) (p : DocumentPackageData) → IsAmongEdges few d p → IsAmongEdges many d p)
     → (place : ℕ) → IsReached document roots few place → IsReached document roots many place
 reached-more document roots few many to place (start, chain, root, way) =
-    (start, chain, root, chain-more (LeadsTo document few) (LeadsTo document many) (leads-more document few many to) start chain place way)
+    (start, chain, root, chain-more (LeadsToPackageAt document few) (LeadsToPackageAt document many) (leads-more document few many to) start chain place way)
 
 build-more : (document : DocumentData) (roots : List ℕ) (place : ℕ) → IsReached document roots edges.Normal place → IsReached document roots edges.Build place
 build-more document roots place h = reached-more document roots edges.Normal edges.Build (λ d p is. inl is.0) place h
@@ -102,43 +102,43 @@ add-up : (ks : List Kind) → count_by (is_same_kind Shipped) ks + count_by (is_
 add-up [] = refl
 add-up (Shipped ∷ ks) =
     let h = add-up ks in
-    let shipped : count_by (is_same_kind Shipped) (Shipped ∷ ks) ≡ 1 + count_by (is_same_kind Shipped) ks = refl in
-    let build : count_by (is_same_kind Build) (Shipped ∷ ks) ≡ 0 + count_by (is_same_kind Build) ks = refl in
-    let development : count_by (is_same_kind Development) (Shipped ∷ ks) ≡ 0 + count_by (is_same_kind Development) ks = refl in
-    let unused : count_by (is_same_kind Unused) (Shipped ∷ ks) ≡ 0 + count_by (is_same_kind Unused) ks = refl in
-    let absent : count_by (is_same_kind Absent) (Shipped ∷ ks) ≡ 0 + count_by (is_same_kind Absent) ks = refl in
+    let shipped : count_by (is_same_kind Shipped) (Shipped ∷ ks) ≡ 1 + count_by (is_same_kind Shipped) ks = sum_by-cons (λ (x : Kind). cond (is_same_kind Shipped x) 1 0) Shipped ks in
+    let build : count_by (is_same_kind Build) (Shipped ∷ ks) ≡ 0 + count_by (is_same_kind Build) ks = sum_by-cons (λ (x : Kind). cond (is_same_kind Build x) 1 0) Shipped ks in
+    let development : count_by (is_same_kind Development) (Shipped ∷ ks) ≡ 0 + count_by (is_same_kind Development) ks = sum_by-cons (λ (x : Kind). cond (is_same_kind Development x) 1 0) Shipped ks in
+    let unused : count_by (is_same_kind Unused) (Shipped ∷ ks) ≡ 0 + count_by (is_same_kind Unused) ks = sum_by-cons (λ (x : Kind). cond (is_same_kind Unused x) 1 0) Shipped ks in
+    let absent : count_by (is_same_kind Absent) (Shipped ∷ ks) ≡ 0 + count_by (is_same_kind Absent) ks = sum_by-cons (λ (x : Kind). cond (is_same_kind Absent x) 1 0) Shipped ks in
     omega (arith, h, shipped, build, development, unused, absent)
 add-up (Build ∷ ks) =
     let h = add-up ks in
-    let shipped : count_by (is_same_kind Shipped) (Build ∷ ks) ≡ 0 + count_by (is_same_kind Shipped) ks = refl in
-    let build : count_by (is_same_kind Build) (Build ∷ ks) ≡ 1 + count_by (is_same_kind Build) ks = refl in
-    let development : count_by (is_same_kind Development) (Build ∷ ks) ≡ 0 + count_by (is_same_kind Development) ks = refl in
-    let unused : count_by (is_same_kind Unused) (Build ∷ ks) ≡ 0 + count_by (is_same_kind Unused) ks = refl in
-    let absent : count_by (is_same_kind Absent) (Build ∷ ks) ≡ 0 + count_by (is_same_kind Absent) ks = refl in
+    let shipped : count_by (is_same_kind Shipped) (Build ∷ ks) ≡ 0 + count_by (is_same_kind Shipped) ks = sum_by-cons (λ (x : Kind). cond (is_same_kind Shipped x) 1 0) Build ks in
+    let build : count_by (is_same_kind Build) (Build ∷ ks) ≡ 1 + count_by (is_same_kind Build) ks = sum_by-cons (λ (x : Kind). cond (is_same_kind Build x) 1 0) Build ks in
+    let development : count_by (is_same_kind Development) (Build ∷ ks) ≡ 0 + count_by (is_same_kind Development) ks = sum_by-cons (λ (x : Kind). cond (is_same_kind Development x) 1 0) Build ks in
+    let unused : count_by (is_same_kind Unused) (Build ∷ ks) ≡ 0 + count_by (is_same_kind Unused) ks = sum_by-cons (λ (x : Kind). cond (is_same_kind Unused x) 1 0) Build ks in
+    let absent : count_by (is_same_kind Absent) (Build ∷ ks) ≡ 0 + count_by (is_same_kind Absent) ks = sum_by-cons (λ (x : Kind). cond (is_same_kind Absent x) 1 0) Build ks in
     omega (arith, h, shipped, build, development, unused, absent)
 add-up (Development ∷ ks) =
     let h = add-up ks in
-    let shipped : count_by (is_same_kind Shipped) (Development ∷ ks) ≡ 0 + count_by (is_same_kind Shipped) ks = refl in
-    let build : count_by (is_same_kind Build) (Development ∷ ks) ≡ 0 + count_by (is_same_kind Build) ks = refl in
-    let development : count_by (is_same_kind Development) (Development ∷ ks) ≡ 1 + count_by (is_same_kind Development) ks = refl in
-    let unused : count_by (is_same_kind Unused) (Development ∷ ks) ≡ 0 + count_by (is_same_kind Unused) ks = refl in
-    let absent : count_by (is_same_kind Absent) (Development ∷ ks) ≡ 0 + count_by (is_same_kind Absent) ks = refl in
+    let shipped : count_by (is_same_kind Shipped) (Development ∷ ks) ≡ 0 + count_by (is_same_kind Shipped) ks = sum_by-cons (λ (x : Kind). cond (is_same_kind Shipped x) 1 0) Development ks in
+    let build : count_by (is_same_kind Build) (Development ∷ ks) ≡ 0 + count_by (is_same_kind Build) ks = sum_by-cons (λ (x : Kind). cond (is_same_kind Build x) 1 0) Development ks in
+    let development : count_by (is_same_kind Development) (Development ∷ ks) ≡ 1 + count_by (is_same_kind Development) ks = sum_by-cons (λ (x : Kind). cond (is_same_kind Development x) 1 0) Development ks in
+    let unused : count_by (is_same_kind Unused) (Development ∷ ks) ≡ 0 + count_by (is_same_kind Unused) ks = sum_by-cons (λ (x : Kind). cond (is_same_kind Unused x) 1 0) Development ks in
+    let absent : count_by (is_same_kind Absent) (Development ∷ ks) ≡ 0 + count_by (is_same_kind Absent) ks = sum_by-cons (λ (x : Kind). cond (is_same_kind Absent x) 1 0) Development ks in
     omega (arith, h, shipped, build, development, unused, absent)
 add-up (Unused ∷ ks) =
     let h = add-up ks in
-    let shipped : count_by (is_same_kind Shipped) (Unused ∷ ks) ≡ 0 + count_by (is_same_kind Shipped) ks = refl in
-    let build : count_by (is_same_kind Build) (Unused ∷ ks) ≡ 0 + count_by (is_same_kind Build) ks = refl in
-    let development : count_by (is_same_kind Development) (Unused ∷ ks) ≡ 0 + count_by (is_same_kind Development) ks = refl in
-    let unused : count_by (is_same_kind Unused) (Unused ∷ ks) ≡ 1 + count_by (is_same_kind Unused) ks = refl in
-    let absent : count_by (is_same_kind Absent) (Unused ∷ ks) ≡ 0 + count_by (is_same_kind Absent) ks = refl in
+    let shipped : count_by (is_same_kind Shipped) (Unused ∷ ks) ≡ 0 + count_by (is_same_kind Shipped) ks = sum_by-cons (λ (x : Kind). cond (is_same_kind Shipped x) 1 0) Unused ks in
+    let build : count_by (is_same_kind Build) (Unused ∷ ks) ≡ 0 + count_by (is_same_kind Build) ks = sum_by-cons (λ (x : Kind). cond (is_same_kind Build x) 1 0) Unused ks in
+    let development : count_by (is_same_kind Development) (Unused ∷ ks) ≡ 0 + count_by (is_same_kind Development) ks = sum_by-cons (λ (x : Kind). cond (is_same_kind Development x) 1 0) Unused ks in
+    let unused : count_by (is_same_kind Unused) (Unused ∷ ks) ≡ 1 + count_by (is_same_kind Unused) ks = sum_by-cons (λ (x : Kind). cond (is_same_kind Unused x) 1 0) Unused ks in
+    let absent : count_by (is_same_kind Absent) (Unused ∷ ks) ≡ 0 + count_by (is_same_kind Absent) ks = sum_by-cons (λ (x : Kind). cond (is_same_kind Absent x) 1 0) Unused ks in
     omega (arith, h, shipped, build, development, unused, absent)
 add-up (Absent ∷ ks) =
     let h = add-up ks in
-    let shipped : count_by (is_same_kind Shipped) (Absent ∷ ks) ≡ 0 + count_by (is_same_kind Shipped) ks = refl in
-    let build : count_by (is_same_kind Build) (Absent ∷ ks) ≡ 0 + count_by (is_same_kind Build) ks = refl in
-    let development : count_by (is_same_kind Development) (Absent ∷ ks) ≡ 0 + count_by (is_same_kind Development) ks = refl in
-    let unused : count_by (is_same_kind Unused) (Absent ∷ ks) ≡ 0 + count_by (is_same_kind Unused) ks = refl in
-    let absent : count_by (is_same_kind Absent) (Absent ∷ ks) ≡ 1 + count_by (is_same_kind Absent) ks = refl in
+    let shipped : count_by (is_same_kind Shipped) (Absent ∷ ks) ≡ 0 + count_by (is_same_kind Shipped) ks = sum_by-cons (λ (x : Kind). cond (is_same_kind Shipped x) 1 0) Absent ks in
+    let build : count_by (is_same_kind Build) (Absent ∷ ks) ≡ 0 + count_by (is_same_kind Build) ks = sum_by-cons (λ (x : Kind). cond (is_same_kind Build x) 1 0) Absent ks in
+    let development : count_by (is_same_kind Development) (Absent ∷ ks) ≡ 0 + count_by (is_same_kind Development) ks = sum_by-cons (λ (x : Kind). cond (is_same_kind Development x) 1 0) Absent ks in
+    let unused : count_by (is_same_kind Unused) (Absent ∷ ks) ≡ 0 + count_by (is_same_kind Unused) ks = sum_by-cons (λ (x : Kind). cond (is_same_kind Unused x) 1 0) Absent ks in
+    let absent : count_by (is_same_kind Absent) (Absent ∷ ks) ≡ 1 + count_by (is_same_kind Absent) ks = sum_by-cons (λ (x : Kind). cond (is_same_kind Absent x) 1 0) Absent ks in
     omega (arith, h, shipped, build, development, unused, absent)
 
 pub counts-add : CountsAddUp

@@ -15,8 +15,8 @@ is_same_kind Absent Absent = true
 is_same_kind _ _ = false
 
 -- how many packages of each kind there are, and how many together
-abbrev pub counts_of : List Kind → KindCounts
-counts_of kinds = record {
+abbrev pub kind_counts_of : List Kind → KindCounts
+kind_counts_of kinds = record {
   shipped = count_by (is_same_kind Shipped) kinds;
   build = count_by (is_same_kind Build) kinds;
   development = count_by (is_same_kind Development) kinds;

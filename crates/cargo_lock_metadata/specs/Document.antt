@@ -9,7 +9,7 @@ use Rattle.serde_json.specs.Find.{as_str, get}
 use Rattle.serde_json.specs.Read.{read}
 use Rattle.cargo_lock_parts.specs.Optional.{◌>>=◌}
 use Rattle.cargo_lock_metadata.specs.Identity.{IdentityTexts}
-use Rattle.cargo_lock_metadata.specs.Fields.{list_at, list_in, text_at, text_or_null_at}
+use Rattle.cargo_lock_metadata.specs.Fields.{list_at, list_in, text_by_key, text_unless_null_by_key}
 use Rattle.cargo_lock_metadata.specs.declared.document.DependencyKind.{DependencyKind}
 use Rattle.cargo_lock_metadata.specs.declared.document.DependencyKind.TheVariants.{Build}
 use Rattle.cargo_lock_metadata.specs.declared.document.DependencyKind.TheVariants.{Development}
@@ -54,18 +54,18 @@ pub record DocumentData : Type 0 where
 -- the identity of a package
 unfoldable pub identity_in : Data → Option IdentityTexts
 identity_in d = do
-  name ← text_at (codes "name") d
-  version ← text_at (codes "version") d
-  source ← text_or_null_at (codes "source") d
+  name ← text_by_key (codes "name") d
+  version ← text_by_key (codes "version") d
+  source ← text_unless_null_by_key (codes "source") d
   Some (record { name = name; version = version; source = source })
 
 -- what the manifest of a package says
 unfoldable pub about_in : Data → Option AboutTexts
 about_in d = do
-  license ← text_or_null_at (codes "license") d
-  license_file ← text_or_null_at (codes "license_file") d
-  description ← text_or_null_at (codes "description") d
-  repository ← text_or_null_at (codes "repository") d
+  license ← text_unless_null_by_key (codes "license") d
+  license_file ← text_unless_null_by_key (codes "license_file") d
+  description ← text_unless_null_by_key (codes "description") d
+  repository ← text_unless_null_by_key (codes "repository") d
   authors ← list_at as_str (codes "authors") d
   Some (record {
     license = license;
@@ -88,9 +88,9 @@ abbrev pub is_macro_package : Data → Option Bool
 is_macro_package d = option_map (list_any (λ b. b)) (list_at is_macro_target (codes "targets") d)
 
 -- a package
-unfoldable pub package_in : Data → Option DocumentPackageData
-package_in d = do
-  id ← text_at (codes "id") d
+unfoldable pub document_package_in : Data → Option DocumentPackageData
+document_package_in d = do
+  id ← text_by_key (codes "id") d
   identity ← identity_in d
   is_macro ← is_macro_package d
   about ← about_in d
@@ -105,20 +105,20 @@ kind_in (string s) =
 kind_in _ = None
 
 -- an item of `dep_kinds`
-abbrev pub kind_at : Data → Option DependencyKind
-kind_at d = get (codes "kind") d >>= kind_in
+abbrev pub dependency_kind_at : Data → Option DependencyKind
+dependency_kind_at d = get (codes "kind") d >>= kind_in
 
 -- a dependency of a node
 unfoldable pub dependency_in : Data → Option NodeDependencyData
 dependency_in d = do
-  target ← text_at (codes "pkg") d
-  kinds ← list_at kind_at (codes "dep_kinds") d
+  target ← text_by_key (codes "pkg") d
+  kinds ← list_at dependency_kind_at (codes "dep_kinds") d
   Some (record { target = target; kinds = kinds })
 
 -- a node
 unfoldable pub node_in : Data → Option NodeData
 node_in d = do
-  id ← text_at (codes "id") d
+  id ← text_by_key (codes "id") d
   dependencies ← list_at dependency_in (codes "deps") d
   Some (record { id = id; dependencies = dependencies })
 
@@ -134,7 +134,7 @@ default_members_in (Some d) = option_map Some (list_in as_str d)
 -- the document that a value is
 unfoldable pub document_in : Data → Option DocumentData
 document_in d = do
-  packages ← list_at package_in (codes "packages") d
+  packages ← list_at document_package_in (codes "packages") d
   nodes ← nodes_in d
   members ← list_at as_str (codes "workspace_members") d
   default_members ← default_members_in (get (codes "workspace_default_members") d)
@@ -146,9 +146,9 @@ document_in d = do
   })
 
 -- how many bytes a document may have: 256 MiB
-abbrev pub limit : ℕ
-limit = 268435456
+abbrev pub document_limit : ℕ
+document_limit = 268435456
 
 -- the document that a text is, unless the text is longer than the limit
 unfoldable pub document_of : List ℕ → Option DocumentData
-document_of text = if nat_le (length text) limit then read text >>= document_in else None
+document_of text = if nat_le (length text) document_limit then read text >>= document_in else None

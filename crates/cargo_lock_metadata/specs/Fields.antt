@@ -18,15 +18,15 @@ abbrev pub list_at : {X : Type 0} → (Data → Option X) → List ℕ → Data 
 list_at read key d = get key d >>= list_in read
 
 -- the text at a key
-abbrev pub text_at : List ℕ → Data → Option (List ℕ)
-text_at key d = get key d >>= as_str
+abbrev pub text_by_key : List ℕ → Data → Option (List ℕ)
+text_by_key key d = get key d >>= as_str
 
 -- a text, or none for null
-abbrev pub text_or_null : Data → Option (Option (List ℕ))
-text_or_null null = Some None
-text_or_null (string s) = Some (Some s)
-text_or_null _ = None
+abbrev pub text_unless_null : Data → Option (Option (List ℕ))
+text_unless_null null = Some None
+text_unless_null (string s) = Some (Some s)
+text_unless_null _ = None
 
 -- the text or null at a key
-abbrev pub text_or_null_at : List ℕ → Data → Option (Option (List ℕ))
-text_or_null_at key d = get key d >>= text_or_null
+abbrev pub text_unless_null_by_key : List ℕ → Data → Option (Option (List ℕ))
+text_unless_null_by_key key d = get key d >>= text_unless_null

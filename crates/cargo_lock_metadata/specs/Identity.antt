@@ -17,20 +17,20 @@ pub record IdentityTexts : Type 0 where
   pub source : Option (List ℕ)
 
 -- the texts of a package of a lockfile: those that `Display` writes, so a source is plain
-abbrev pub texts_of : PackageData → IdentityTexts
-texts_of p = record {
+abbrev pub identity_texts_of : PackageData → IdentityTexts
+identity_texts_of p = record {
   name = p.name;
   version = parts_text p.version;
   source = option_map (text_of false) p.source;
 }
 
 -- they compare by name, version and source; an absent source is before a present one
-abbrev pub identity_cmp : IdentityTexts → IdentityTexts → Ordering
-identity_cmp = by_name_version_source (λ i. i.name) (λ i. i.version) (λ i. i.source)
+abbrev pub identity_texts_cmp : IdentityTexts → IdentityTexts → Ordering
+identity_texts_cmp = by_name_version_source (λ i. i.name) (λ i. i.version) (λ i. i.source)
     text_cmp text_cmp
 
 -- that order is total
-pub identity_total : IsTotalOrder identity_cmp
-identity_total = by_name_version_source-total (λ (i : IdentityTexts). i.name)
+pub identity_texts_total : IsTotalOrder identity_texts_cmp
+identity_texts_total = by_name_version_source-total (λ (i : IdentityTexts). i.name)
     (λ (i : IdentityTexts). i.version) (λ (i : IdentityTexts). i.source)
     nat_list_cmp_total nat_list_cmp_total

@@ -1,12 +1,9 @@
 -- Laws of kinds and of their counts.
-use Rattle.std.specs.Prelude.{◌≡◌, ◌+◌, ◌<◌, ℕ, List, Option, Some}
+use Rattle.std.specs.Prelude.{◌≡◌, ◌+◌, ℕ, List, Option, Some}
 use Rattle.std.specs.List.{Contains}
-use Rattle.cargo_lock_metadata.specs.Belonging.{Belong, BelongsTo, IsAt, IsSame}
-use Rattle.cargo_lock_metadata.specs.Counts.{counts_of}
+use Rattle.cargo_lock_metadata.specs.Counts.{kind_counts_of}
 use Rattle.cargo_lock_metadata.specs.Document.{DocumentData}
-use Rattle.cargo_lock_metadata.specs.Identity.{IdentityTexts}
 use Rattle.cargo_lock_metadata.specs.Steps.{IsKind, IsReached}
-use Rattle.cargo_lock_metadata.specs.declared.kinds.Edges.{Edges}
 use Rattle.cargo_lock_metadata.specs.declared.kinds.Edges.TheVariants as edges
 use Rattle.cargo_lock_metadata.specs.declared.kinds.Kind.{Kind}
 use Rattle.cargo_lock_metadata.specs.declared.kinds.Kind.TheVariants.{Shipped}
@@ -45,5 +42,5 @@ MoreRootsShipMore = (document : DocumentData) (roots more : List ℕ) (place : �
 
 -- the counts of the kinds are together how many packages there are
 abbrev pub CountsAddUp : Type 0
-CountsAddUp = (kinds : List Kind) → let c = counts_of kinds in
+CountsAddUp = (kinds : List Kind) → let c = kind_counts_of kinds in
     c.shipped + c.build + c.development + c.unused + c.absent ≡ c.total

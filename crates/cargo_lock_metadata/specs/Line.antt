@@ -8,20 +8,20 @@ use Rattle.cargo_lock_metadata.specs.declared.line.KindsLine.{KindsLine}
 use Rattle.cargo_lock_metadata.specs.declared.name_and_version.NameAndVersion.{NameAndVersion}
 
 -- a name and a version
-abbrev pub named_text : NameAndVersion → List ℕ
-named_text n = shown Plain (string_bytes n.name)
+abbrev pub name_and_version_text : NameAndVersion → List ℕ
+name_and_version_text n = shown Plain (string_bytes n.name)
     ++ (codes " " ++ shown Plain (string_bytes n.version))
 
 -- ---- the last line
 
 -- more roots, each behind a comma
 abbrev pub more_text : List NameAndVersion → List ℕ
-more_text = flat_map (λ n. codes ", " ++ named_text n)
+more_text = flat_map (λ n. codes ", " ++ name_and_version_text n)
 
 -- the roots, each behind the one before and a comma
 abbrev pub roots_text : List NameAndVersion → List ℕ
 roots_text [] = codes "no package"
-roots_text (r ∷ rs) = named_text r ++ more_text rs
+roots_text (r ∷ rs) = name_and_version_text r ++ more_text rs
 
 -- how many packages are shipped, of how many, and how many are needed otherwise
 abbrev pub needed_text : KindCounts → List ℕ
@@ -34,5 +34,5 @@ counts_text c = needed_text c ++ (decimal c.unused ++ (codes " unused, " ++ (dec
     ++ codes " absent (not built with these features and this target)")))
 
 -- the last line
-abbrev pub line_text : KindsLine → List ℕ
-line_text l = codes "shipped from " ++ roots_text l.roots.now ++ codes ": " ++ counts_text l.counts
+abbrev pub kinds_line_text : KindsLine → List ℕ
+kinds_line_text l = codes "shipped from " ++ roots_text l.roots.now ++ codes ": " ++ counts_text l.counts

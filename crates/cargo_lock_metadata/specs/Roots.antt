@@ -23,10 +23,10 @@ AreRoots document places [] = AllZip (HasId document.packages) (root_ids documen
 AreRoots document places (p ∷ ps) = AllZip (BelongsTo places) (p ∷ ps)
 
 -- an error: a named place to which nothing belongs
-abbrev pub IsNamedFault : List (Option ℕ) → (named : List ℕ) → RootsError → Type 0
-IsNamedFault places named (Absent p) = Contains named p × ((q : ℕ) → ¬ BelongsTo places p q)
-IsNamedFault places named UnknownMember = ⊥
-IsNamedFault places named Memory = Unit {0}
+abbrev pub IsNamedRootFault : List (Option ℕ) → (named : List ℕ) → RootsError → Type 0
+IsNamedRootFault places named (Absent p) = Contains named p × ((q : ℕ) → ¬ BelongsTo places p q)
+IsNamedRootFault places named UnknownMember = ⊥
+IsNamedRootFault places named Memory = Unit {0}
 
 -- an error: an id that no package has
 abbrev pub IsUnknownFault : DocumentData → (ids : List (List ℕ)) → RootsError → Type 0
@@ -42,4 +42,4 @@ IsMemberFault document = IsUnknownFault document (root_ids document)
 -- when each error comes
 abbrev pub IsRootsFault : DocumentData → List (Option ℕ) → (named : List ℕ) → RootsError → Type 0
 IsRootsFault document places [] = IsMemberFault document
-IsRootsFault document places (p ∷ ps) = IsNamedFault places (p ∷ ps)
+IsRootsFault document places (p ∷ ps) = IsNamedRootFault places (p ∷ ps)

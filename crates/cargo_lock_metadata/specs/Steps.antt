@@ -14,45 +14,45 @@ use Rattle.cargo_lock_metadata.specs.declared.kinds.Kind.TheVariants.{Absent, Bu
 use Rattle.cargo_lock_metadata.specs.declared.kinds.Kind.TheVariants.{Shipped, Unused}
 
 -- the place is the first of the key in the list
-pub record IsFirst {X : Type 0} (keys : List X) (key : X) (place : ℕ) : Type 0 where
+pub record IsFirstPlace {X : Type 0} (keys : List X) (key : X) (place : ℕ) : Type 0 where
   pub here : slice_get keys place ≡ Some key
   pub before : (k : ℕ) → k < place → ¬ (slice_get keys k ≡ Some key)
 
 -- the package with an `id`, by its place: the first that has it
 abbrev pub HasId : List DocumentPackageData → List ℕ → ℕ → Type 0
-HasId packages = IsFirst (map (λ p. p.id) packages)
+HasId packages = IsFirstPlace (map (λ p. p.id) packages)
 
 -- the node with an `id`, by its place: the first that has it
 abbrev pub NodeHasId : List NodeData → List ℕ → ℕ → Type 0
-NodeHasId nodes = IsFirst (map (λ n. n.id) nodes)
+NodeHasId nodes = IsFirstPlace (map (λ n. n.id) nodes)
 
 -- The dependency on a package is one of these edges. The normal ones are those that the package itself
 -- needs, except on procedural macros, which run while others are compiled. With those of builds, these
 -- and what build scripts need come too.
-abbrev pub IsAmong : Edges → NodeDependencyData → DocumentPackageData → Type 0
-IsAmong edges.Normal d to = Contains d.kinds kind.Normal × (to.is_macro ≡ false)
-IsAmong edges.Build d to = Contains d.kinds kind.Normal ⊎ Contains d.kinds kind.Build
-IsAmong edges.All d to = Unit {0}
+abbrev pub IsAmongEdges : Edges → NodeDependencyData → DocumentPackageData → Type 0
+IsAmongEdges edges.Normal d to = Contains d.kinds kind.Normal × (to.is_macro ≡ false)
+IsAmongEdges edges.Build d to = Contains d.kinds kind.Normal ⊎ Contains d.kinds kind.Build
+IsAmongEdges edges.All d to = Unit {0}
 
 -- the dependency leads to the package at the place by one of these edges
-abbrev pub DependsOn : List DocumentPackageData → Edges → NodeDependencyData → ℕ → Type 0
-DependsOn packages which d place = (to : DocumentPackageData)
-    × HasId packages d.target place × (slice_get packages place ≡ Some to) × IsAmong which d to
+abbrev pub DependsOnPackage : List DocumentPackageData → Edges → NodeDependencyData → ℕ → Type 0
+DependsOnPackage packages which d place = (to : DocumentPackageData)
+    × HasId packages d.target place × (slice_get packages place ≡ Some to) × IsAmongEdges which d to
 
 -- the node with an `id` has a dependency that leads to the package at the place
 abbrev pub NodeLeadsTo : DocumentData → Edges → List ℕ → ℕ → Type 0
 NodeLeadsTo document which id place = (k : ℕ) × (n : NodeData)
     × NodeHasId document.nodes id k × (slice_get document.nodes k ≡ Some n)
-    × OneLeadsTo (DependsOn document.packages which) n.dependencies place
+    × OneLeadsTo (DependsOnPackage document.packages which) n.dependencies place
 
 -- the package at a has a dependency that leads to the package at b
-abbrev pub LeadsTo : DocumentData → Edges → (a b : ℕ) → Type 0
-LeadsTo document which a b = (p : DocumentPackageData) × (slice_get document.packages a ≡ Some p)
+abbrev pub LeadsToPackageAt : DocumentData → Edges → (a b : ℕ) → Type 0
+LeadsToPackageAt document which a b = (p : DocumentPackageData) × (slice_get document.packages a ≡ Some p)
     × NodeLeadsTo document which p.id b
 
 -- a chain of these edges leads to the package at the place from one of the roots
 abbrev pub IsReached : DocumentData → (roots : List ℕ) → Edges → ℕ → Type 0
-IsReached document roots which = IsReachedFrom (Contains roots) (LeadsTo document which)
+IsReached document roots which = IsReachedFrom (Contains roots) (LeadsToPackageAt document which)
 
 -- ---- kinds
 
@@ -95,10 +95,10 @@ AreKinds document roots = AreKindsBy (IsReached document roots edges.Normal)
 -- ---- by marks. No public contract cites these.
 
 -- the marks are those of the places that are reached
-abbrev pub AreReached : DocumentData → List ℕ → Edges → List Bool → Type 0
-AreReached document roots which marks = (k : ℕ) → IsMarked marks k ↔ IsReached document roots which k
+abbrev pub AreMarksOfReached : DocumentData → List ℕ → Edges → List Bool → Type 0
+AreMarksOfReached document roots which marks = (k : ℕ) → IsMarked marks k ↔ IsReached document roots which k
 
 -- the node is that of the package at the place
-abbrev pub IsNodeOf : DocumentData → ℕ → NodeData → Type 0
-IsNodeOf document place n = (p : DocumentPackageData) × (slice_get document.packages place ≡ Some p)
+abbrev pub IsNodeOfPackage : DocumentData → ℕ → NodeData → Type 0
+IsNodeOfPackage document place n = (p : DocumentPackageData) × (slice_get document.packages place ≡ Some p)
     × ((k : ℕ) × NodeHasId document.nodes p.id k × (slice_get document.nodes k ≡ Some n))

@@ -3,9 +3,9 @@
 
 ghost use Rattle.std.specs.Prelude.{◌≡◌, ◌<◌, ℕ, IfErr, IfOk, false, length, map, slice_get};
 ghost use Rattle.std.specs.Prelude.{slice_set, true};
-ghost use Rattle.cargo_lock_metadata.specs.Belonging.{Belong, HasPut, IsForeignFault, IsTaken};
+ghost use Rattle.cargo_lock_metadata.specs.Belonging.{Belong, HasPut, IsForeignFault, HasNoFreePlace};
 ghost use Rattle.cargo_lock_metadata.specs.Belonging.{NamesForeign};
-ghost use Rattle.cargo_lock_metadata.specs.Identity.{texts_of};
+ghost use Rattle.cargo_lock_metadata.specs.Identity.{identity_texts_of};
 
 use crate::document::DocumentPackage;
 use crate::identity::PlainIdentity;
@@ -67,9 +67,9 @@ pub fn document_places(
     packages: &[Package],
     document: &[DocumentPackage],
 ) -> Result<Vec<Option<usize>>, BelongingError>
-    ensures ok { IfOk result (λ places. Belong (map texts_of packages.now)
+    ensures ok { IfOk result (λ places. Belong (map identity_texts_of packages.now)
         (map (λ q. q.identity) document.now) (length document.now) places.items) }
-    ensures err { IfErr result (IsForeignFault (map texts_of packages.now)
+    ensures err { IfErr result (IsForeignFault (map identity_texts_of packages.now)
         (map (λ q. q.identity) document.now)) }
 {
     let identities = identities_of(alloc, packages)?;
@@ -80,7 +80,7 @@ pub fn document_places(
 
 // The identities of the packages of a lockfile.
 fn identities_of(alloc: Global, packages: &[Package]) -> Result<Vec<PlainIdentity>, AllocError>
-    ensures { IfOk result (λ identities. identities.items ≡ map texts_of packages.now) }
+    ensures { IfOk result (λ identities. identities.items ≡ map identity_texts_of packages.now) }
 {
     let mut identities = Vec::with_capacity(alloc, packages.len())?;
     for package in packages {
@@ -133,7 +133,7 @@ fn put<'a>(
     requires { length places.old.items ≡ length index.now }
     ensures put { result ≡ true
         → HasPut index.now identity.now place places.old.items places.new.items }
-    ensures taken { result ≡ false → IsTaken index.now identity.now places.old.items }
+    ensures taken { result ≡ false → HasNoFreePlace index.now identity.now places.old.items }
 {
     match index.place(identity) {
         Some(own) => put_at(places, own, place),

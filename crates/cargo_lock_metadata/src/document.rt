@@ -11,9 +11,11 @@ ghost use Rattle.cargo_lock_metadata.specs.Document.{about_in, default_members_i
 ghost use Rattle.cargo_lock_metadata.specs.Document.{document_in, document_of, identity_in};
 ghost use Rattle.cargo_lock_metadata.specs.Document.{is_macro_kind, is_macro_package};
 ghost use Rattle.cargo_lock_metadata.specs.Document.{is_macro_target, kind_in, node_in, nodes_in};
-ghost use Rattle.cargo_lock_metadata.specs.Document.{package_in};
+ghost use Rattle.cargo_lock_metadata.specs.Document.{document_package_in};
 
-use crate::fields::{FromJson, list_at, text_at, text_or_null_at, texts_at, texts_in, value_at};
+use crate::fields::{
+    FromJson, list_at, text_by_key, text_unless_null_by_key, texts_at, texts_in, value_at,
+};
 use crate::identity::PlainIdentity;
 use cargo_lock_parts::error::{Error, Result};
 use serde_json::Value;
@@ -248,13 +250,13 @@ fn default_members_in(alloc: Global, value: &Value) -> Result<Option<Vec<String>
 // ---- packages
 
 impl FromJson for DocumentPackage {
-    ghost use Rattle.cargo_lock_metadata.specs.Document.{package_in};
+    ghost use Rattle.cargo_lock_metadata.specs.Document.{document_package_in};
 
-    ghost meaning = { package_in };
+    ghost meaning = { document_package_in };
 
-    #[tactic(auto, unfolding(crate::specs::Document::package_in))]
+    #[tactic(auto, unfolding(crate::specs::Document::document_package_in))]
     fn from_json(alloc: Global, value: &Value, _key: &str) -> Result<DocumentPackage> {
-        let id = text_at(alloc, value, "id")?;
+        let id = text_by_key(alloc, value, "id")?;
         let identity = identity_in(alloc, value)?;
         let is_procedural_macro = is_macro_package(alloc, value)?;
         let about = about_in(alloc, value)?;
@@ -272,9 +274,9 @@ impl FromJson for DocumentPackage {
 fn identity_in(alloc: Global, value: &Value) -> Result<PlainIdentity>
     ensures { Reads (λ i. i) result (identity_in (view value.now)) }
 {
-    let name = text_at(alloc, value, "name")?;
-    let version = text_at(alloc, value, "version")?;
-    let source = text_or_null_at(alloc, value, "source")?;
+    let name = text_by_key(alloc, value, "name")?;
+    let version = text_by_key(alloc, value, "version")?;
+    let source = text_unless_null_by_key(alloc, value, "source")?;
     Ok(PlainIdentity {
         name,
         version,
@@ -287,10 +289,10 @@ fn identity_in(alloc: Global, value: &Value) -> Result<PlainIdentity>
 fn about_in(alloc: Global, value: &Value) -> Result<About>
     ensures { Reads (λ a. a) result (about_in (view value.now)) }
 {
-    let license = text_or_null_at(alloc, value, "license")?;
-    let license_file = text_or_null_at(alloc, value, "license_file")?;
-    let description = text_or_null_at(alloc, value, "description")?;
-    let repository = text_or_null_at(alloc, value, "repository")?;
+    let license = text_unless_null_by_key(alloc, value, "license")?;
+    let license_file = text_unless_null_by_key(alloc, value, "license_file")?;
+    let description = text_unless_null_by_key(alloc, value, "description")?;
+    let repository = text_unless_null_by_key(alloc, value, "repository")?;
     let authors = texts_at(alloc, value, "authors")?;
     Ok(About {
         license,
@@ -359,7 +361,7 @@ impl FromJson for Node {
 
     #[tactic(auto, unfolding(crate::specs::Document::node_in))]
     fn from_json(alloc: Global, value: &Value, _key: &str) -> Result<Node> {
-        let id = text_at(alloc, value, "id")?;
+        let id = text_by_key(alloc, value, "id")?;
         let dependencies = list_at(alloc, value, "deps")?;
         Ok(Node { id, dependencies })
     }
@@ -372,16 +374,16 @@ impl FromJson for NodeDependency {
 
     #[tactic(auto, unfolding(crate::specs::Document::dependency_in))]
     fn from_json(alloc: Global, value: &Value, _key: &str) -> Result<NodeDependency> {
-        let target = text_at(alloc, value, "pkg")?;
+        let target = text_by_key(alloc, value, "pkg")?;
         let kinds = list_at(alloc, value, "dep_kinds")?;
         Ok(NodeDependency { target, kinds })
     }
 }
 
 impl FromJson for DependencyKind {
-    ghost use Rattle.cargo_lock_metadata.specs.Document.{kind_at};
+    ghost use Rattle.cargo_lock_metadata.specs.Document.{dependency_kind_at};
 
-    ghost meaning = { kind_at };
+    ghost meaning = { dependency_kind_at };
 
     fn from_json(alloc: Global, value: &Value, _key: &str) -> Result<DependencyKind> {
         let kind = value_at(alloc, value, "kind")?;

@@ -6,8 +6,8 @@ ghost use Rattle.std.specs.Prelude.{map, option_map, string_bytes};
 ghost use Rattle.serde_json.specs.Find.{as_array, as_str, get};
 ghost use Rattle.serde_json.specs.View.{items_view, view};
 ghost use Rattle.cargo_lock_parts.specs.Error.{Reads};
-ghost use Rattle.cargo_lock_metadata.specs.Fields.{list_at, list_in, read_all, text_at};
-ghost use Rattle.cargo_lock_metadata.specs.Fields.{text_or_null, text_or_null_at};
+ghost use Rattle.cargo_lock_metadata.specs.Fields.{list_at, list_in, read_all, text_by_key};
+ghost use Rattle.cargo_lock_metadata.specs.Fields.{text_unless_null, text_unless_null_by_key};
 
 use cargo_lock_parts::error::Result;
 use serde_json::Value;
@@ -49,8 +49,8 @@ pub(crate) fn text_in(alloc: Global, value: &Value, key: &str) -> Result<String>
 }
 
 /// The text that a value is, or `None` for null.
-fn text_or_null(alloc: Global, value: &Value, key: &str) -> Result<Option<String>>
-    ensures { Reads (option_map string_bytes) result (text_or_null (view value.now)) }
+fn text_unless_null(alloc: Global, value: &Value, key: &str) -> Result<Option<String>>
+    ensures { Reads (option_map string_bytes) result (text_unless_null (view value.now)) }
 {
     match value {
         Value::Null => Ok(None),
@@ -63,26 +63,30 @@ fn text_or_null(alloc: Global, value: &Value, key: &str) -> Result<Option<String
 fn items_in<'a>(alloc: Global, value: &'a Value, key: &str) -> Result<&'a [Value]>
     ensures { Reads (λ s. items_view s.now) result (as_array (view value.now)) }
 {
-    match value.as_array() {
-        Some(list) => Ok(list.as_slice()),
-        None => Err(wrong_type(alloc, key)),
-    }
+    let Some(list) = value.as_array() else {
+        return Err(wrong_type(alloc, key));
+    };
+    Ok(list.as_slice())
 }
 
 /// The text at a key.
-pub(crate) fn text_at(alloc: Global, value: &Value, key: &str) -> Result<String>
-    ensures { Reads string_bytes result (text_at key.now (view value.now)) }
+pub(crate) fn text_by_key(alloc: Global, value: &Value, key: &str) -> Result<String>
+    ensures { Reads string_bytes result (text_by_key key.now (view value.now)) }
 {
     let found = value_at(alloc, value, key)?;
     text_in(alloc, found, key)
 }
 
 /// The text at a key, or `None` for null.
-pub(crate) fn text_or_null_at(alloc: Global, value: &Value, key: &str) -> Result<Option<String>>
-    ensures { Reads (option_map string_bytes) result (text_or_null_at key.now (view value.now)) }
+pub(crate) fn text_unless_null_by_key(
+    alloc: Global,
+    value: &Value,
+    key: &str,
+) -> Result<Option<String>>
+    ensures { Reads (option_map string_bytes) result (text_unless_null_by_key key.now (view value.now)) }
 {
     let found = value_at(alloc, value, key)?;
-    text_or_null(alloc, found, key)
+    text_unless_null(alloc, found, key)
 }
 
 /// The texts of the list that a value is.

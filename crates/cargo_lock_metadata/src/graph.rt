@@ -3,7 +3,7 @@
 ghost use Rattle.std.specs.Prelude.{◌≡◌, ◌↔◌, ◌<◌, ℕ, IfOk, IsTrue, MatchOption, length, map};
 ghost use Rattle.std.specs.Prelude.{string_bytes};
 ghost use Rattle.std.specs.List.{Contains};
-ghost use Rattle.cargo_lock_metadata.specs.Steps.{DependsOn, HasId, IsAmong, IsNodeOf, LeadsTo};
+ghost use Rattle.cargo_lock_metadata.specs.Steps.{DependsOnPackage, HasId, IsAmongEdges, IsNodeOfPackage, LeadsToPackageAt};
 ghost use Rattle.cargo_lock_metadata.specs.declared.kinds.Edges.{Edges};
 
 use crate::document::{DependencyKind, Document, DocumentPackage, Node, NodeDependency};
@@ -58,8 +58,8 @@ impl<'a> Graph<'a> {
     pub(crate) fn node(&self, place: usize) -> Option<&'a Node>
         requires { place < length self.now.packages }
         ensures { MatchOption result
-            ((which : Edges) (b : ℕ) → ¬ LeadsTo self.now which place b)
-            (λ node. IsNodeOf self.now place node.now) }
+            ((which : Edges) (b : ℕ) → ¬ LeadsToPackageAt self.now which place b)
+            (λ node. IsNodeOfPackage self.now place node.now) }
     {
         let document = self.document;
         match self.nodes.place(&document.packages[place].id) {
@@ -71,8 +71,8 @@ impl<'a> Graph<'a> {
     /// The place of the package that a dependency leads to by these edges.
     pub(crate) fn target(&self, dependency: &'a NodeDependency, which: Edges) -> Option<usize>
         ensures { MatchOption result
-            ((b : ℕ) → ¬ DependsOn self.now.packages which dependency.now b)
-            (DependsOn self.now.packages which dependency.now) }
+            ((b : ℕ) → ¬ DependsOnPackage self.now.packages which dependency.now b)
+            (DependsOnPackage self.now.packages which dependency.now) }
     {
         let document = self.document;
         match self.packages.place(&dependency.target) {
@@ -124,7 +124,7 @@ fn node_ids<'a>(alloc: Global, nodes: &'a [Node]) -> Result<Index<'a, String>, A
 
 // Whether the dependency on a package is one of these edges.
 fn is_among(which: Edges, dependency: &NodeDependency, package: &DocumentPackage) -> bool
-    ensures { IsTrue result ↔ IsAmong which dependency.now «package».now }
+    ensures { IsTrue result ↔ IsAmongEdges which dependency.now «package».now }
 {
     match which {
         Edges::Normal => {

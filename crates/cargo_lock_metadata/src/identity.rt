@@ -4,7 +4,7 @@ ghost use Rattle.std.specs.Prelude.{◌≡◌, IfOk, false, option_map, string_b
 ghost use Rattle.std.specs.Option.{option_cmp};
 ghost use Rattle.cargo_lock_parts.specs.SourceKey.{text_cmp};
 ghost use Rattle.cargo_lock_parts.specs.SourceText.{text_of};
-ghost use Rattle.cargo_lock_metadata.specs.Identity.{texts_of};
+ghost use Rattle.cargo_lock_metadata.specs.Identity.{identity_texts_of};
 
 use cargo_lock_parts::package::{Package, SourceId};
 use std::alloc::{AllocError, Global};
@@ -45,7 +45,7 @@ impl PlainIdentity {
     /// let identity = PlainIdentity::of(alloc, package)?;
     /// ```
     pub fn of(alloc: Global, package: &Package) -> Result<PlainIdentity, AllocError>
-        ensures { IfOk result (λ identity. identity ≡ texts_of «package».now) }
+        ensures { IfOk result (λ identity. identity ≡ identity_texts_of «package».now) }
     {
         Ok(PlainIdentity {
             name: String::from_str(alloc, package.name.as_str())?,
@@ -69,11 +69,11 @@ fn source_text(alloc: Global, source: &Option<SourceId>) -> Result<Option<String
 impl PartialEq for PlainIdentity {
     ghost use Rattle.std.specs.Cmp.{partial_equiv_from_equiv, eq_by_cmp_equiv};
     ghost use Rattle.std.specs.Ordering.{eq_by_cmp};
-    ghost use Rattle.cargo_lock_metadata.specs.Identity.{identity_cmp, identity_total};
+    ghost use Rattle.cargo_lock_metadata.specs.Identity.{identity_texts_cmp, identity_texts_total};
 
-    ghost eq = { eq_by_cmp identity_cmp };
+    ghost eq = { eq_by_cmp identity_texts_cmp };
 
-    ghost laws = { partial_equiv_from_equiv (eq_by_cmp_equiv identity_total) };
+    ghost laws = { partial_equiv_from_equiv (eq_by_cmp_equiv identity_texts_total) };
 
     fn eq(&self, other: &PlainIdentity) -> bool {
         self.cmp(other) == Ordering::Equal
@@ -82,19 +82,19 @@ impl PartialEq for PlainIdentity {
 
 impl Eq for PlainIdentity {
     ghost use Rattle.std.specs.Cmp.{eq_by_cmp_equiv};
-    ghost use Rattle.cargo_lock_metadata.specs.Identity.{identity_total};
+    ghost use Rattle.cargo_lock_metadata.specs.Identity.{identity_texts_total};
 
-    ghost laws = { eq_by_cmp_equiv identity_total };
+    ghost laws = { eq_by_cmp_equiv identity_texts_total };
 }
 
 impl PartialOrd for PlainIdentity {
     ghost use Rattle.std.specs.Ordering.{as_partial_cmp};
     ghost use Rattle.std.specs.Cmp.{partial_order_from_total};
-    ghost use Rattle.cargo_lock_metadata.specs.Identity.{identity_cmp, identity_total};
+    ghost use Rattle.cargo_lock_metadata.specs.Identity.{identity_texts_cmp, identity_texts_total};
 
-    ghost partial_cmp = { as_partial_cmp identity_cmp };
+    ghost partial_cmp = { as_partial_cmp identity_texts_cmp };
 
-    ghost laws = { partial_order_from_total identity_total };
+    ghost laws = { partial_order_from_total identity_texts_total };
 
     fn partial_cmp(&self, other: &PlainIdentity) -> Option<Ordering> {
         Some(self.cmp(other))
@@ -103,11 +103,11 @@ impl PartialOrd for PlainIdentity {
 
 impl Ord for PlainIdentity {
     ghost use Rattle.std.specs.Prelude.{refl};
-    ghost use Rattle.cargo_lock_metadata.specs.Identity.{identity_cmp, identity_total};
+    ghost use Rattle.cargo_lock_metadata.specs.Identity.{identity_texts_cmp, identity_texts_total};
 
-    ghost cmp = { identity_cmp };
+    ghost cmp = { identity_texts_cmp };
 
-    ghost total = { identity_total };
+    ghost total = { identity_texts_total };
 
     ghost matches_partial_cmp = { λ a b. refl };
 

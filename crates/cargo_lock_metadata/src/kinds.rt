@@ -5,8 +5,8 @@ ghost use Rattle.std.specs.Prelude.{◌≡◌, ◌<◌, All, IfOk, OnOk, Some, l
 ghost use Rattle.lists.specs.Chains.{OneLeadsTo};
 ghost use Rattle.lists.specs.Marks.{IsMarked};
 ghost use Rattle.lists.specs.Reach.{HasReached};
-ghost use Rattle.cargo_lock_metadata.specs.Steps.{AreKinds, AreKindsBy, AreReached, DependsOn};
-ghost use Rattle.cargo_lock_metadata.specs.Steps.{IsKindBy, LeadsTo, kind_text};
+ghost use Rattle.cargo_lock_metadata.specs.Steps.{AreKinds, AreKindsBy, AreMarksOfReached, DependsOnPackage};
+ghost use Rattle.cargo_lock_metadata.specs.Steps.{IsKindBy, LeadsToPackageAt, kind_text};
 ghost use Rattle.cargo_lock_metadata.specs.declared.kinds.Edges.TheVariants as edges;
 
 use crate::document::{Document, Node};
@@ -38,7 +38,8 @@ impl Kind {
     /// The word for the kind: `shipped`, `build`, `dev`, `unused` or `absent`.
     ///
     /// ```
-    /// println!(rt; "{}", kind.as_str())?;
+    /// let word = kind.as_str();
+    /// println!(rt; "{word}")?;
     /// ```
     pub fn as_str(self) -> &'static str
         ensures { result.now ≡ kind_text self }
@@ -70,7 +71,7 @@ pub enum Edges {
 /// it, and the places of the roots. Fails when out of memory.
 ///
 /// ```
-/// let kinds = kinds_of(alloc, &document, &places, &roots)?;
+/// let kinds = kinds_of(alloc, document, places, roots)?;
 /// ```
 pub fn kinds_of(
     alloc: Global,
@@ -102,12 +103,12 @@ impl Marks {
     {
         match place {
             None => Kind::Absent,
-            Some(place) => self.kind_at(place),
+            Some(place) => self.kind_at_place(place),
         }
     }
 
     // The kind of the package at a place.
-    fn kind_at(&self, place: usize) -> Kind
+    fn kind_at_place(&self, place: usize) -> Kind
         ensures { IsKindBy (IsMarked self.now.normal.items) (IsMarked self.now.build.items)
             (IsMarked self.now.all.items) (Some place) result }
     {
@@ -141,16 +142,12 @@ fn kinds_by(
 }
 
 // What is reached by normal edges, by those of builds too, and by all.
-fn reached_by_all(
-    alloc: Global,
-    document: &Document,
-    roots: &[usize],
-) -> Result<Marks, AllocError>
+fn reached_by_all(alloc: Global, document: &Document, roots: &[usize]) -> Result<Marks, AllocError>
     requires { All (λ k. k < length document.now.packages) roots.now }
     ensures { IfOk result (λ reached.
-        AreReached document.now roots.now edges.Normal reached.normal.items
-        × AreReached document.now roots.now edges.Build reached.build.items
-        × AreReached document.now roots.now edges.All reached.all.items) }
+        AreMarksOfReached document.now roots.now edges.Normal reached.normal.items
+        × AreMarksOfReached document.now roots.now edges.Build reached.build.items
+        × AreMarksOfReached document.now roots.now edges.All reached.all.items) }
 {
     let graph = Graph::of(alloc, document)?;
     let normal = reached(alloc, &graph, roots, Edges::Normal)?;
@@ -167,7 +164,7 @@ fn reached(
     which: Edges,
 ) -> Result<Vec<bool>, AllocError>
     requires { All (λ k. k < length graph.now.packages) roots.now }
-    ensures { IfOk result (λ marks. AreReached graph.now roots.now which marks.items) }
+    ensures { IfOk result (λ marks. AreMarksOfReached graph.now roots.now which marks.items) }
 {
     let mut search = Reach::new(alloc, graph.len())?;
     search.reach_all(roots)?;
@@ -186,7 +183,7 @@ fn follow(
 ) -> Result<(), AllocError>
     requires count { length search.old.marks ≡ length graph.now.packages }
     requires within { place < length graph.now.packages }
-    ensures { OnOk result (HasReached (LeadsTo graph.now which place) search.old search.new) }
+    ensures { OnOk result (HasReached (LeadsToPackageAt graph.now which place) search.old search.new) }
 {
     match graph.node(place) {
         Some(node) => follow_node(search, graph, node, which),
@@ -203,7 +200,7 @@ fn follow_node<'a>(
 ) -> Result<(), AllocError>
     requires { length search.old.marks ≡ length graph.now.packages }
     ensures { OnOk result (HasReached
-        (OneLeadsTo (DependsOn graph.now.packages which) node.now.dependencies)
+        (OneLeadsTo (DependsOnPackage graph.now.packages which) node.now.dependencies)
         search.old search.new) }
 {
     for dependency in &node.dependencies {

@@ -1,5 +1,13 @@
 //! What is shipped of the packages of a lockfile, by the document that
 //! `cargo metadata --locked --format-version 1` prints.
+//!
+//! A caller reads the document by `Document::from_str`, and joins it with the packages of the lockfile
+//! by `document_places`. It takes the roots by `roots_of`, and then asks `kinds_of` for the kind of each
+//! package. `KindsLine` displays how many packages there are of each kind.
+//!
+//! ```
+//! let document = Document::from_str(alloc, text)?;
+//! ```
 #![tactic(auto)]
 
 pub mod belonging;

@@ -2,7 +2,7 @@
 
 ghost use Rattle.std.specs.Prelude.{◌≡◌, Some, count_by};
 ghost use Rattle.std.specs.Fmt.{DisplaysOnOk};
-ghost use Rattle.cargo_lock_metadata.specs.Counts.{counts_of, is_same_kind};
+ghost use Rattle.cargo_lock_metadata.specs.Counts.{kind_counts_of, is_same_kind};
 ghost use Rattle.cargo_lock_metadata.specs.Line.{counts_text, more_text, needed_text};
 ghost use Rattle.cargo_lock_metadata.specs.Line.{roots_text};
 
@@ -36,10 +36,10 @@ impl KindCounts {
     /// The counts of these kinds.
     ///
     /// ```
-    /// let counts = KindCounts::of(&kinds);
+    /// let counts = KindCounts::of(kinds);
     /// ```
     pub fn of(kinds: &[Kind]) -> KindCounts
-        ensures { result ≡ counts_of kinds.now }
+        ensures { result ≡ kind_counts_of kinds.now }
     {
         KindCounts {
             shipped: count(kinds, Kind::Shipped),
@@ -71,7 +71,7 @@ fn is_same_kind(one: Kind, other: Kind) -> bool
 /// these features and this target)`.
 ///
 /// ```
-/// let line = KindsLine { roots: &names, counts };
+/// let line = KindsLine { roots: names, counts };
 /// println!(rt; "{line}")?;
 /// ```
 #[derive(Clone, Copy)]
@@ -85,9 +85,9 @@ pub struct KindsLine<'a> {
 
 impl fmt::Display for KindsLine<'_> {
     ghost use Rattle.std.specs.Prelude.{Some};
-    ghost use Rattle.cargo_lock_metadata.specs.Line.{line_text};
+    ghost use Rattle.cargo_lock_metadata.specs.Line.{kinds_line_text};
 
-    ghost output = { λ l. Some (line_text l) };
+    ghost output = { λ l. Some (kinds_line_text l) };
 
     fn fmt<W: fmt::Write>(&self, f: &mut fmt::Formatter<W>) -> fmt::Result {
         f.write_str("shipped from ")?;
@@ -98,10 +98,7 @@ impl fmt::Display for KindsLine<'_> {
 }
 
 // The roots, each behind the one before and a comma.
-fn write_roots<W: fmt::Write>(
-    roots: &[NameAndVersion],
-    f: &mut fmt::Formatter<W>,
-) -> fmt::Result
+fn write_roots<W: fmt::Write>(roots: &[NameAndVersion], f: &mut fmt::Formatter<W>) -> fmt::Result
     ensures { DisplaysOnOk W.write_str_gives f.old result (Some (roots_text roots.now)) f.new }
 {
     match roots {
@@ -131,7 +128,10 @@ fn write_counts<W: fmt::Write>(counts: &KindCounts, f: &mut fmt::Formatter<W>) -
     write_needed(counts, f)?;
     let unused = counts.unused;
     let absent = counts.absent;
-    write!(f, "{unused} unused, {absent} absent (not built with these features and this target)")
+    write!(
+        f,
+        "{unused} unused, {absent} absent (not built with these features and this target)"
+    )
 }
 
 // How many packages are shipped, of how many, and how many are needed otherwise.
@@ -142,5 +142,8 @@ fn write_needed<W: fmt::Write>(counts: &KindCounts, f: &mut fmt::Formatter<W>) -
     let total = counts.total;
     let build = counts.build;
     let development = counts.development;
-    write!(f, "{shipped} of {total} packages; {build} build, {development} dev, ")
+    write!(
+        f,
+        "{shipped} of {total} packages; {build} build, {development} dev, "
+    )
 }

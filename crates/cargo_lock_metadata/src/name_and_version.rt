@@ -37,9 +37,9 @@ impl NameAndVersion {
 
 impl fmt::Display for NameAndVersion {
     ghost use Rattle.std.specs.Prelude.{Some};
-    ghost use Rattle.cargo_lock_metadata.specs.Line.{named_text};
+    ghost use Rattle.cargo_lock_metadata.specs.Line.{name_and_version_text};
 
-    ghost output = { λ n. Some (named_text n) };
+    ghost output = { λ n. Some (name_and_version_text n) };
 
     fn fmt<W: fmt::Write>(&self, f: &mut fmt::Formatter<W>) -> fmt::Result {
         let name = Shown(&self.name);

@@ -4,7 +4,7 @@ ghost use Rattle.std.specs.Prelude.{◌≡◌, ◌<◌, ℕ, All, IfErr, IfOk, M
 ghost use Rattle.std.specs.Prelude.{string_bytes};
 ghost use Rattle.std.specs.List.{AllZip};
 ghost use Rattle.cargo_lock_metadata.specs.Belonging.{BelongsTo};
-ghost use Rattle.cargo_lock_metadata.specs.Roots.{AreRoots, IsMemberFault, IsNamedFault, IsRootsFault};
+ghost use Rattle.cargo_lock_metadata.specs.Roots.{AreRoots, IsMemberFault, IsNamedRootFault, IsRootsFault};
 ghost use Rattle.cargo_lock_metadata.specs.Roots.{IsUnknownFault, root_ids};
 ghost use Rattle.cargo_lock_metadata.specs.Steps.{HasId};
 
@@ -56,7 +56,7 @@ impl<T: Drop> From<AllocFailed<T>> for RootsError {
 /// members where the document has no default ones. `places` are those of `document_places`.
 ///
 /// ```
-/// let roots = roots_of(alloc, &document, &places, &named)?;
+/// let roots = roots_of(alloc, document, places, named)?;
 /// ```
 ///
 /// # Errors
@@ -89,7 +89,7 @@ fn named_places(
     named: &[usize],
 ) -> Result<Vec<usize>, RootsError>
     ensures ok { IfOk result (λ roots. AllZip (BelongsTo places.now) named.now roots.items) }
-    ensures err { IfErr result (IsNamedFault places.now named.now) }
+    ensures err { IfErr result (IsNamedRootFault places.now named.now) }
 {
     let mut roots = Vec::with_capacity(alloc, named.len())?;
     for place in named {

@@ -1,4 +1,4 @@
-use Rattle.std.proofs.Common.{◌∙◌, List, ap, length, map}
+use Rattle.std.proofs.Common.{◌∙◌, List, ap, map}
 use Rattle.std.proofs.lemmas.List.{take_all}
 use Rattle.cargo_lock_metadata.specs.Document.{DocumentPackageData}
 use Rattle.cargo_lock_metadata.proofs.Stepping.{ids-ok}

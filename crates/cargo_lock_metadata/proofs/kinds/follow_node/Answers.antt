@@ -1,9 +1,7 @@
-use Rattle.std.proofs.Common.{◌≡◌, ◌∙◌, List, ap, get_or, subst}
-use Rattle.lists.proofs.ReachedPlaces.{each-all, each-next, reached-none}
-use Rattle.lists.specs.Chains.{OneLeadsTo}
-use Rattle.lists.specs.Reach.{HasReached}
-use Rattle.cargo_lock_metadata.specs.Document.{DocumentPackageData, NodeData, NodeDependencyData}
-use Rattle.cargo_lock_metadata.specs.Steps.{DependsOn}
+use Rattle.std.proofs.Common.{List}
+use Rattle.lists.proofs.ReachedPlaces.{each-next, reached-none}
+use Rattle.cargo_lock_metadata.specs.Document.{DocumentPackageData, NodeDependencyData}
+use Rattle.cargo_lock_metadata.specs.Steps.{DependsOnPackage}
 use Rattle.cargo_lock_metadata.proofs.Stepping.{target-reached}
 use Rattle.cargo_lock_metadata.proofs.kinds.follow_node.Goals as goal
 use Rattle.cargo_lock_metadata.proofs.kinds.follow_node.Goals.{in-Some+in_ok-reach, in_default}
@@ -15,7 +13,7 @@ loop-dependency-preserved c =
     let i = c.loop-dependency.dependency-index in
     let d : NodeDependencyData = c.dependency-item.result in
     let low = c.loop-dependency-test.true in
-    let leads = DependsOn packages c.args.which in
+    let leads = DependsOnPackage packages c.args.which in
     elim c.match-target.branch [
       | in-Some+in_ok-reach w ↦ rw w.search-is
           (each-next leads ds i d c.args.search.now c.loop-dependency.search w.reach.new.self low c.dependency-item.is c.loop-dependency.invariant

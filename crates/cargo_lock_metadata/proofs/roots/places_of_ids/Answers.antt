@@ -1,6 +1,4 @@
-use Rattle.std.proofs.Common.{◌≡◌, ◌∙◌, ◌+◌, ℕ, List, String, Global, ap, get_or, length, map, string_bytes, subst, sym, take}
-use Rattle.std.specs.List.{AllZip}
-use Rattle.std.proofs.lemmas.List.{length-map}
+use Rattle.std.proofs.Common.{string_bytes}
 use Rattle.cargo_lock_metadata.specs.Steps.{HasId}
 use Rattle.cargo_lock_metadata.proofs.Rooting.{zip-map-next}
 use Rattle.cargo_lock_metadata.proofs.roots.places_of_ids.Goals as goal

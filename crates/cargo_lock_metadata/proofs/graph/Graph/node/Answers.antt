@@ -16,9 +16,16 @@ returns-in-Some c =
     let at : slice_get D.packages c.args.place ≡ Some p = slice_get_read D.packages (length D.packages) c.args.place p refl c.requires
     (subst (λ (ps : List DocumentPackageData). p ≡ get_or ps c.args.place p) packages c.index.ensures) in
     let first = first-id c.self.inside.nodes c.behind-document.inside.id (map id D.nodes) p.id c.in-Some.node
-    (c.self.invariant.1 ∙ ap (λ (d : DocumentData). map id d.nodes) c.self.view_is) (ap (λ (q : DocumentPackageData). q.id) c.behind-document.view_is) c.in-Some.ensures in
-    (p, at, (c.in-Some.node, first, read-first id D.nodes c.in-Some.node p.id n first
-    (subst (λ (ns : List NodeData). n ≡ get_or ns c.in-Some.node n) nodes c.index-in-Some.ensures)))
+    (c.self.invariant.1 ∙ ap (λ (d : DocumentData). map id d.nodes) c.self.view_is) (ap (λ (q : DocumentPackageData). q.id) c.behind-document.view_is) c.in-Some.ensures in (
+      p,
+      at,
+      (
+        c.in-Some.node,
+        first,
+        read-first id D.nodes c.in-Some.node p.id n first
+            (subst (λ (ns : List NodeData). n ≡ get_or ns c.in-Some.node n) nodes c.index-in-Some.ensures),
+      ),
+    )
 
 pub returns-in-None : goal.returns-in-None
 returns-in-None c = λ which b (q, here, (k, n, first, there, rest)).

@@ -1,6 +1,6 @@
 use Rattle.std.proofs.Common.{◌≡◌, ◌∙◌, List, Some, ap, get_or, map, slice_get, subst, sym, true≢false}
 use Rattle.cargo_lock_metadata.specs.Document.{DocumentData, DocumentPackageData, NodeDependencyData}
-use Rattle.cargo_lock_metadata.specs.Steps.{HasId, IsAmong}
+use Rattle.cargo_lock_metadata.specs.Steps.{HasId}
 use Rattle.cargo_lock_metadata.proofs.Stepping.{first-id, no-id, not-among, read-first}
 use Rattle.cargo_lock_metadata.proofs.graph.Graph.target.Goals as goal
 
