@@ -31,12 +31,12 @@ found-among xs x (Ok i) h = (λ e. is-there xs i x h.0 h.1, λ c. refl)
 found-among xs x (Err i) h = (
   λ e. absurd (cc e),
   λ c. let k : ℕ = c.0 in
-  let low : k < length xs = c.1 in
-  let is : get_or xs k 0 ≡ x = get_or_default xs k 0 x low ∙ c.2 in
-  elim (cases_lt k i) [
-    | inl below ↦ absurd (let l = h.1 k below in omega (arith, l, is))
-    | inr above ↦ absurd (let l = h.2 k above low in omega (arith, l, is))
-  ],
+      let low : k < length xs = c.1 in
+      let is : get_or xs k 0 ≡ x = get_or_default xs k 0 x low ∙ c.2 in
+      elim (cases_lt k i) [
+        | inl below ↦ absurd (let l = h.1 k below in omega (arith, l, is))
+        | inr above ↦ absurd (let l = h.2 k above low in omega (arith, l, is))
+      ],
 )
 
 -- ---- the references of both sides

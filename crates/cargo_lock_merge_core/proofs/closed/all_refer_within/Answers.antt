@@ -9,7 +9,7 @@ use Rattle.cargo_lock_merge_core.proofs.closed.all_refer_within.Goals as goal
 pub returns-then-not-refers_within : goal.returns-then-not-refers_within
 returns-then-not-refers_within c =
     let none = data-not (RefersWithin c.args.places.now) c.args.list.now c.loop-package.package-index c.package-item.result c.loop-package-test.true (sym c.package-item.is)
-        (λ h. let e = c.refers_within.ensures.1 h in let f = c.if-not-refers_within.true in absurd (cc (e, f))) in
+    (λ h. let e = c.refers_within.ensures.1 h in let f = c.if-not-refers_within.true in absurd (cc (e, f))) in
     (λ e. absurd (cc e), λ all. absurd (none all))
 
 pub loop-package-preserved : goal.loop-package-preserved

@@ -15,7 +15,7 @@ returns c =
     let ours : c.deref.result.now ≡ place_numbers o = c.deref.ensures.value ∙ c.in_ok-our_places.ensures in
     let theirs : c.deref-2.result.now ≡ place_numbers t = c.deref-2.ensures.value ∙ c.in_ok-their_places.ensures in
     let holds = subst (λ (zs : List ℕ). (p : ℕ) → Contains ps p ↔ (Contains (place_numbers o) p ⊎ Contains zs p)) theirs
-        (subst (λ (zs : List ℕ). (p : ℕ) → Contains ps p ↔ (Contains zs p ⊎ Contains c.deref-2.result.now p)) ours c.in_ok-places.ensures.holds) in
+    (subst (λ (zs : List ℕ). (p : ℕ) → Contains ps p ↔ (Contains zs p ⊎ Contains c.deref-2.result.now p)) ours c.in_ok-places.ensures.holds) in
     let first = subst (λ (zs : List ℕ). Decides c.all_refer_within.result (All (RefersWithin zs) o)) c.deref-3.ensures.value c.all_refer_within.ensures in
     elim c.if-all_refer_within.branch [
       | then-all_refer_within w ↦

@@ -26,8 +26,8 @@ returns-in-Err-Refused-clause-ok c =
     sym (get_or-map (λ y. y.content) (all_data xs) i (placed_data x) x.«package».now (omega (arith, low, length-map xs placed_data)) ∙ ap (λ y. y.content) (get_or-map placed_data xs i x (placed_data x) low ∙ ap placed_data is)) in
     let before = take-map (λ (y : PlacedData ℕ). y.content) i (all_data xs) ∙ ap contents_of (take-map placed_data i xs) in
     let two = two-of all i x.«package».now c.loop-package.commits (Refused c.in-Err-Refused.field-0-0) (omega (arith, low, long)) here
-        (subst (λ (zs : List PackageData). AreSourcesOf zs c.loop-package.commits) (sym before) c.loop-package.invariant.sources)
-        (subst (IsApartOrMemory c.loop-package.commits x.«package».now) c.in-Err-Refused.field-0-is c.in-Err-Refused.ensures.err) in
+    (subst (λ (zs : List PackageData). AreSourcesOf zs c.loop-package.commits) (sym before) c.loop-package.invariant.sources)
+    (subst (IsApartOrMemory c.loop-package.commits x.«package».now) c.in-Err-Refused.field-0-is c.in-Err-Refused.ensures.err) in
     let none = not-one all c.in-Err-Refused.field-0-0 two in
     (λ e. absurd (cc e), λ h. absurd (none h))
 
