@@ -1,9 +1,11 @@
 -- A merge in which a side is favoured where both are in conflict.
 use Rattle.std.specs.Prelude.{◌≡◌, ◌≢◌, ℕ, List, []}
 use Rattle.cargo_lock_merge_core.specs.declared.rule3.Side.{Side}
+use Rattle.cargo_lock_merge_core.specs.Commits.{Lockfiles}
 use Rattle.cargo_lock_merge_core.specs.Favoured.{IsFavouredTriple}
 use Rattle.cargo_lock_merge_core.specs.Merge.{IsMerge, Triple}
 use Rattle.cargo_lock_merge_core.specs.Placed.{PlacedData}
+use Rattle.cargo_lock_merge_core.specs.Triples.{AreSidesOf}
 use Rattle.cargo_lock_merge.specs.declared.conflict.Conflict.{Conflict}
 use Rattle.cargo_lock_merge.specs.declared.favoured.FavouredOutcome.{FavouredOutcome}
 use Rattle.cargo_lock_merge.specs.declared.favoured.FavouredOutcome.TheVariants.{Conflicts, Favoured}
@@ -29,6 +31,10 @@ IsFavouredOutcome side s (Favoured packages remarks conflicts) = IsWithout s con
 IsFavouredOutcome side s (Conflicts conflicts) = IsWithout s conflicts.items
     × ((new : Triple ℕ) (m : List (PlacedData ℕ)) → IsFavouredTriple side s new → AreReady new
     → ¬ IsMerge new m)
+
+-- the outcome is that of three lists, by the numbers of their places
+abbrev pub FindsFavoured : Side → Lockfiles → FavouredOutcome → Type 0
+FindsFavoured side all outcome = (s : Triple ℕ) × AreSidesOf all s × IsFavouredOutcome side s outcome
 
 -- ---- as the program has them
 
