@@ -14,3 +14,4 @@ pub mod SoundMerges
 pub mod DocumentDepth
 pub mod Documents
 mod PuttingSpellings
+pub mod FavouredLists

@@ -6,6 +6,7 @@ pub mod Comments
 pub mod Conflict
 pub mod Notice
 pub mod Outcome
+pub mod Favoured
 pub mod Formats
 pub mod Patches
 pub mod OwnMetadata

@@ -6,6 +6,7 @@ mod assemble;
 pub mod comments;
 pub mod conflict;
 pub mod document;
+mod favoured;
 mod format;
 pub mod inputs;
 pub mod laws;

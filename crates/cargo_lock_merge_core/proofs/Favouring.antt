@@ -2,20 +2,21 @@
 use Rattle.std.proofs.Common.{◌≡◌, ◌⊎◌, ◌↔◌, ◌+◌, ◌++◌, ◌∷◌, [], Bool, true, false, if◌then◌else◌, MatchOption, is_some, refl, ◌<◌, ◌≤◌, ◌∙◌, inl, inr, ℕ, List, Option, Some, None, length, get_or, slice_index_or, take, map, sym, ap, subst, arith, All}
 use Rattle.std.specs.List.{Contains}
 use Rattle.std.specs.List.Sorted.{IsStrictlyIncreasing}
+use Rattle.std.proofs.lemmas.Bool.{cases_eq}
 use Rattle.std.proofs.lemmas.List.{get_or-map, length-map, map-append, take_all}
 use Rattle.std.proofs.lemmas.List.Elements.{All-contains, All-push}
 use Rattle.cargo_lock_merge_core.specs.declared.commits.SourceCommits.{SourceCommits}
 use Rattle.cargo_lock_merge_core.specs.declared.placed.Placed.{Placed}
 use Rattle.cargo_lock_merge_core.specs.Disputes.{HasNoDispute, IsDisputeOf, source_key}
 use Rattle.cargo_lock_merge_core.specs.Commits.{Lockfiles}
-use Rattle.cargo_lock_merge_core.specs.Favoured.{ArePlaces, HasDisputedAt, HasDisputedSource, IsFavouring, IsOfEither}
+use Rattle.cargo_lock_merge_core.specs.Favoured.{ArePlaces, HasDisputedAt, HasDisputedSource, IsDecided, IsFavouring, IsOfEither}
 use Rattle.cargo_lock_merge_core.specs.Numbered.{IsInOrder, all_data, data_if, place_number, place_numbers, placed_data}
 use Rattle.cargo_lock_merge_core.specs.Placed.{HasAt, IsAt, PlacedData}
 use Rattle.cargo_lock_merge_core.proofs.Finding.{place-among, place-at}
 use Rattle.cargo_lock_merge_core.proofs.Kept.{AreKept, kept-end, kept-pass, kept-push}
 use Rattle.cargo_lock_merge_core.proofs.Landing.{one-each}
 use Rattle.cargo_lock_merge_core.proofs.Staying.{one-at}
-use Rattle.lists.proofs.Members.{map-in}
+use Rattle.lists.proofs.Members.{contains-cases, first-in, later-in, map-in, none-in}
 
 pub places-push : (all : List Placed) (x : Placed) → place_numbers (all_data (all ++ x ∷ [])) ≡ place_numbers (all_data all) ++ x.place ∷ []
 places-push all x = ap place_numbers (map-append placed_data all (x ∷ [])) ∙ map-append place_number (all_data all) (placed_data x ∷ [])
@@ -194,3 +195,24 @@ of-either ds fs xs all each k d low = elim (each k d low) [
 
 pub places-of : (P : ℕ → Type 0) (xs ys : List ℕ) → xs ≡ ys → ArePlaces P ys → ArePlaces P xs
 places-of P xs ys e is = subst (ArePlaces P) (sym e) is
+
+-- ---- whether a place is one of these
+
+decide-in : (ps : List ℕ) (p : ℕ) → Contains ps p ⊎ (¬ Contains ps p)
+decide-in [] p = inr (none-in p)
+decide-in (q ∷ qs) p = elim (cases_eq q p) [
+  | inl same ↦ inl (subst (Contains (q ∷ qs)) same (first-in q qs))
+  | inr other ↦ elim (decide-in qs p) [
+    | inl later ↦ inl (later-in q qs p later)
+    | inr none ↦ inr (λ h. elim (contains-cases q qs p h) [
+      | inl same ↦ absurd (omega (arith, same, other))
+      | inr later ↦ absurd (none later)
+    ])
+  ]
+]
+
+pub decided : (P : ℕ → Type 0) (ps : List ℕ) → ArePlaces P ps → IsDecided P
+decided P ps is p = elim (decide-in ps p) [
+  | inl h ↦ inl ((is.holds p).0 h)
+  | inr none ↦ inr (λ h. none ((is.holds p).1 h))
+]

@@ -81,6 +81,10 @@ pub record AreAscending (xs : List (PlacedData ℕ)) : Type 0 where
   pub order : IsInOrder xs
   pub each : All (λ x. IsStrictlyIncreasing x.dependencies) xs
 
+-- of each place it is known whether it is one of those
+abbrev pub IsDecided : (ℕ → Type 0) → Type 0
+IsDecided IsThere = (p : ℕ) → IsThere p ⊎ (¬ IsThere p)
+
 -- the places, in order, are exactly those
 pub record ArePlaces (IsThere : ℕ → Type 0) (places : List ℕ) : Type 0 where
   pub ascending : IsStrictlyIncreasing places

@@ -1,14 +1,14 @@
 //! A merge in which a side is favoured: where the sides are in conflict, the base and the other side
 //! have what the favoured side has.
 
-ghost use Rattle.std.specs.Prelude.{◌≡◌, ℕ, All, IfOk, IsOkUnless, if◌then◌else◌};
+ghost use Rattle.std.specs.Prelude.{◌≡◌, ℕ, All, IfOk, IsOkUnless, OnOk, if◌then◌else◌};
 ghost use Rattle.std.specs.List.{Contains};
 ghost use Rattle.std.specs.List.Sorted.{IsStrictlyIncreasing};
 ghost use Rattle.cargo_lock_parts.specs.declared.error.Error.TheVariants.{Memory};
 ghost use Rattle.cargo_lock_merge_core.specs.Conflicts.{conflict_of};
 ghost use Rattle.cargo_lock_merge_core.specs.Favoured.{AreAscending, AreFavoured, ArePlaces};
 ghost use Rattle.cargo_lock_merge_core.specs.Favoured.{HasDisputedAt, HasDisputedValue, IsDisputedPlace};
-ghost use Rattle.cargo_lock_merge_core.specs.Favoured.{IsFavoured, IsFavouring, IsOfDisputedSource};
+ghost use Rattle.cargo_lock_merge_core.specs.Favoured.{IsDecided, IsFavoured, IsFavouring, IsOfDisputedSource};
 ghost use Rattle.cargo_lock_merge_core.specs.Favoured.{IsOfEither, triple_of_lists};
 ghost use Rattle.cargo_lock_merge_core.specs.Merge.{IsMatter, Triple, lockfiles_of};
 ghost use Rattle.cargo_lock_merge_core.specs.Merged.{HasPlan};
@@ -62,6 +62,7 @@ pub fn favour<'a, 'd>(
     ensures ok { IfOk result (IsFavoured side (triple_of_lists lists.entry)) }
     ensures base { IfOk result (λ f. AreAscending (all_data f.base.items)) }
     ensures other { IfOk result (λ f. AreAscending (all_data f.other.items)) }
+    ensures decided { OnOk result (IsDecided (IsDisputedPlace (triple_of_lists lists.entry))) }
     ensures err { IsOkUnless result Memory }
 {
     let disputed = disputed_places(alloc, commits, plan, lists)?;

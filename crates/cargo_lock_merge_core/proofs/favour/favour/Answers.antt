@@ -1,7 +1,7 @@
 use Rattle.std.proofs.Common.{subst, sym}
 use Rattle.cargo_lock_merge_core.specs.declared.rule3.Side.{Side}
 use Rattle.cargo_lock_merge_core.specs.Favoured.{IsDisputedPlace, IsFavoured, triple_of_lists}
-use Rattle.cargo_lock_merge_core.proofs.Favouring.{favouring-places, places-of}
+use Rattle.cargo_lock_merge_core.proofs.Favouring.{decided, favouring-places, places-of}
 use Rattle.cargo_lock_merge_core.proofs.favour.favour.Goals as goal
 
 pub returns-in-Ours-clause-ok : goal.returns-in-Ours-clause-ok
@@ -23,3 +23,9 @@ returns-clause-ok c =
       base = favouring-places (IsDisputedPlace s) _ _ _ _ is new.base.favouring;
       other = favouring-places (IsDisputedPlace s) _ _ _ _ is new.other.favouring;
     }
+
+pub returns-in-Ours-clause-decided : goal.returns-in-Ours-clause-decided
+returns-in-Ours-clause-decided c = decided (IsDisputedPlace (triple_of_lists c.args.lists)) _ c.in_ok-disputed.ensures.ok
+
+pub returns-clause-decided : goal.returns-clause-decided
+returns-clause-decided c = decided (IsDisputedPlace (triple_of_lists c.args.lists)) _ c.in_ok-disputed.ensures.ok
