@@ -70,9 +70,14 @@ IsBase input = IsSide input
     ⊎ ((l : LockfileData) × IsMeantWithCargoChecksums l × IsInputOf l [] input)
 
 -- these are the inputs of texts, in which each source has one spelling
-abbrev pub AreInputs : MergeInputs → Type 0
-AreInputs inputs = (base : MergeInput) × (ours : MergeInput) × (theirs : MergeInput)
-    × IsBase base × IsSide ours × IsSide theirs × AreInputsOf base ours theirs inputs
+pub record AreInputs (inputs : MergeInputs) : Type 0 where
+  pub read_base : MergeInput
+  pub read_ours : MergeInput
+  pub read_theirs : MergeInput
+  pub base : IsBase read_base
+  pub ours : IsSide read_ours
+  pub theirs : IsSide read_theirs
+  pub spelt : AreInputsOf read_base read_ours read_theirs inputs
 
 -- their merge with these comments is printed; or they have none, and the document says why, and the
 -- status is that of a fault

@@ -126,7 +126,8 @@ fn asked(alloc: Global, options: &ArgMatches<'_>) -> Result<Telling, Fault>
     Err(Fault::from(command.error(WordsKind::MissingRequiredArgument, NO_FILE)?))
 }
 
-/// The three lockfiles that the arguments name, in which each source has one spelling. Fails if one is not read, and if two of them are
+/// The three lockfiles that the arguments name, in which each source has one spelling. Fails if one
+/// is not read, and if two of them are
 /// standard input.
 fn inputs<R: Files + Input + AllocGlobal>(
     rt: &R,
