@@ -13,9 +13,19 @@ from kit import rt
 # How many edits the gate tries, and of how many crates: where the bytes hold, or some do not, and
 # where the logic is another.
 USUAL, OF_LOGIC = (20, 8), (100, 100)
+# The memory that a check of some edits of a crate is reckoned to take. (Those of a program have been
+# seen to take more.)
+NEEDED = 6_000_000_000
 # What an edit was seen to take in seconds of one processor where many are tried at once, with its
 # share of the checks without edits.
 SECONDS = 27
+
+
+def lanes():
+    """Returns how many checks are made at once: one a processor, as far as free memory reaches."""
+    with open("/proc/meminfo", encoding="utf-8") as file:
+        kilobytes = dict(line.split(":") for line in file)["MemAvailable"].split()[0]
+    return max(1, min(os.cpu_count(), 1024 * int(kilobytes) // NEEDED))
 
 
 def of_crates(pairs):
@@ -95,11 +105,11 @@ def groups_of(pairs):
     return [(crate, [edit for of, edit in pairs if of is crate]) for crate in crates.values()]
 
 
-def run(all_edits, seed, lanes):
+def run(all_edits, seed, count_of_lanes):
     """Tries a sample, and returns how many passed and how many failed."""
     states = choice.states_of(all_edits)
     drawn = choice.sample(states, seed, *(OF_LOGIC if is_of_logic(states) else USUAL))
     announce(states, drawn, seed)
-    with ThreadPoolExecutor(lanes) as pool:
+    with ThreadPoolExecutor(count_of_lanes) as pool:
         found = [it for group in pool.map(tried, groups_of(drawn)) for it in group]
     return sum(found), len(found) - sum(found)
