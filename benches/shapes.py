@@ -122,6 +122,7 @@ SHAPES = {
     "one package many times": (["check", "-f"], repeated, 200),
     "git packages of one name, `tree`": (["tree", "-f"], of_git, 200),
     "git packages of one name, `bom`": (["bom", "-f"], of_git, 200),
+    "revisions of one repository, `tree`": (["tree", "-f"], of_revisions, 200),
     "revisions of one repository, `check`": (["check", "-f"], of_revisions, 200),
     "revisions of one repository, `why`": (["why", "-f"], of_revisions_asked, 200),
     "revisions of one repository, `duplicates`": (["duplicates", "-f"], of_revisions, 200),

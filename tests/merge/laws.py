@@ -3,7 +3,8 @@ of them says how a merge is found: they know places, and otherwise only read loc
 """
 import re
 
-from lockfiles import Refused, kept_comments, print_text, read, version_order
+from lockfiles import CRATES_IO, Refused, kept_comments, print_text, read, respelt, sources_of
+from lockfiles import version_order
 from model import ROLES, Side, doubled_names, rule3, shown, with_commit
 
 LINE = re.compile(r"(conflict: .*?: )(.* -> )?(.*) \(ours\), (.*) \(theirs\)")
@@ -27,13 +28,26 @@ def ask(holds, law):
         raise Broken(law)
 
 
+def by_forms(lockfile):
+    """The lockfile with each URL in the form in which Cargo compares it."""
+    return respelt(lockfile, {it.form(): it.canonical() for it in all_sources(lockfile)})
+
+
+def all_sources(lockfile):
+    """The sources of packages, dependencies, replacements and unused patches."""
+    linked = [it for package in lockfile.packages
+              for it in (*package.dependencies, package.replacement) if it]
+    return sources_of(lockfile) + [it.source for it in linked if it.source]
+
+
 class View:
-    """The packages of a lockfile by places, as these names are doubled."""
+    """The packages of a lockfile by places, as these names are doubled. Sources are the same where
+    Cargo takes them for one."""
 
     def __init__(self, text, doubled, role="merged"):
         self.lockfile = read(text)
         self.comments = kept_comments(text)
-        self.side = Side(role, self.lockfile, doubled)
+        self.side = Side(role, by_forms(self.lockfile), doubled)
         self.at = self.side.at
 
     def identities(self):
@@ -60,9 +74,10 @@ class View:
         return self.reached() != set(self.at)
 
 
-def contents(text):
-    """The packages of a text with all that they have, and the unused patches."""
-    lockfile = read(text)
+def contents(text, form=lambda lockfile: lockfile):
+    """The packages of a text with all that they have, and the unused patches. Its sources are as they
+    are spelt, or in this form."""
+    lockfile = form(read(text))
     side = Side("read", lockfile, doubled_names([lockfile]))
     packages = {(place, it.key(), it.package.checksum, frozenset(it.dependencies), it.replacement)
                 for place, it in side.at.items()}
@@ -96,6 +111,27 @@ def check_answer(texts, answer):
     check_moved(views, merged, answer)
     check_notices(views, merged, answer)
     check_comments(views, merged, answer)
+    check_spellings(views, merged)
+
+
+def spellings(view, form):
+    """The URLs of a source in a lockfile."""
+    return {it.url for it in all_sources(view.lockfile) if it.form() == form}
+
+
+def check_spellings(views, merged):
+    """A source has one spelling: that of a lockfile, or crates.io as Cargo writes it. One that one side
+    alone has changed is taken."""
+    for form in {it.form() for it in all_sources(merged.lockfile)}:
+        base, ours, theirs = (spellings(it, form) for it in views)
+        found = spellings(merged, form)
+        ask(len(found) == 1, f"a source has one spelling: {form}")
+        known = base | ours | theirs
+        ask(found <= known or found == {CRATES_IO.partition("+")[2]} and len(known) > 1,
+            f"a spelling is of a lockfile: {form}")
+        for one, other in ((ours, theirs), (theirs, ours)):
+            if len(one) == len(other) == 1 and one in (base, other):
+                ask(found == other, f"a spelling is as one side changed it: {form}")
 
 
 def check_comments(views, merged, answer):
@@ -276,14 +312,16 @@ def other_checksums(base, side):
 
 
 def check_stable(merge, texts, answer):
-    """A merge is stable where no name is doubled."""
+    """A merge is stable where no name is doubled. Its spellings may not be: two other spellings of
+    crates.io are merged into that of Cargo, which may be the base's."""
     base, ours, theirs = texts
     if answer.status != 0 or doubled_names([read(it) for it in texts]):
         return
     for asked in ([base, answer.text, theirs], [base, ours, answer.text]):
         again = merge(asked)
         ask(again.status == 0, f"a merge is stable: {again.lines}")
-        ask(contents(again.text)[0] == contents(answer.text)[0], "a merge is stable")
+        ask(contents(again.text, by_forms)[0] == contents(answer.text, by_forms)[0],
+            "a merge is stable")
 
 
 def check(merge, texts, number):

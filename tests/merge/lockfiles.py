@@ -58,6 +58,10 @@ class Source:
             return (len(KINDS) + REFERENCES.index(self.reference[0]), self.reference[1], url)
         return (KINDS.index(self.word), "", url)
 
+    def form(self):
+        """What Cargo compares of sources of packages, whatever commit they name."""
+        return (self.word, self.reference, self.canonical())
+
     def canonical(self):
         """The URL as Cargo compares those of packages."""
         scheme, _, rest = self.url.partition("://")
@@ -117,6 +121,27 @@ class Lockfile:
     metadata: dict = dataclasses.field(default_factory=dict)
     has_root: bool = False
     checksum_keys: set = dataclasses.field(default_factory=set)
+
+
+def sources_of(lockfile):
+    """The sources of packages, and then of unused patches."""
+    own = [it.identity for it in lockfile.packages] + lockfile.patches
+    return [it.source for it in own if it.source]
+
+
+def respelt(lockfile, urls):
+    """The lockfile with these URLs of sources, by their forms."""
+    def of(identity):
+        if identity is None or identity.source is None:
+            return identity
+        source = identity.source
+        return dataclasses.replace(identity, source=dataclasses.replace(
+            source, url=urls.get(source.form(), source.url)))
+    packages = [dataclasses.replace(it, identity=of(it.identity), replacement=of(it.replacement),
+                                    dependencies=[of(to) for to in it.dependencies])
+                for it in lockfile.packages]
+    return dataclasses.replace(lockfile, packages=packages,
+                               patches=[of(it) for it in lockfile.patches])
 
 
 def numbers(version):

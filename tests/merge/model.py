@@ -14,7 +14,7 @@ import sys
 sys.dont_write_bytecode = True
 
 from lockfiles import Identity, Lockfile, Package, Refused, kept_comments, numbers, print_text
-from lockfiles import read, version_order
+from lockfiles import read, respelt, sources_of, version_order
 
 ROLES = ("base", "ours", "theirs")
 # What a side without a thing has, and the answer of the rule of three where both changed it.
@@ -34,6 +34,38 @@ def merged_value(base, ours, theirs):
     if ours == ABSENT or theirs == ABSENT:
         return theirs if ours == ABSENT else ours
     return rule3(base, ours, theirs)
+
+
+# ---- spellings
+
+# The URLs of crates.io as Cargo writes them, by the forms in which it compares them.
+WRITTEN = {("registry", ("", ""), "https://github.com/rust-lang/crates.io-index"):
+           "https://github.com/rust-lang/crates.io-index",
+           ("sparse", ("", ""), "https://index.crates.io/"): "https://index.crates.io/"}
+
+
+def spellings_of(lockfile):
+    """The URL of each form of a source: that of the first package, or else of the first patch."""
+    found = {}
+    for source in sources_of(lockfile):
+        found.setdefault(source.form(), source.url)
+    return found
+
+
+def merged_url(form, base, ours, theirs):
+    """The one spelling of a source that the three have with these URLs."""
+    url = merged_value(base, ours, theirs)
+    if url == ABSENT:
+        return base
+    return WRITTEN.get(form, min(ours, theirs)) if url == DISPUTED else url
+
+
+def in_one_spelling(lockfiles):
+    """The lockfiles, in which each source is spelt as the merge has it."""
+    spellings = [spellings_of(it) for it in lockfiles]
+    urls = {form: merged_url(form, *(it.get(form, ABSENT) for it in spellings))
+            for form in set().union(*spellings)}
+    return [respelt(it, urls) for it in lockfiles]
 
 
 # ---- places
@@ -154,6 +186,7 @@ class Merge:
 
     def __init__(self, lockfiles):
         self.choices = {}
+        lockfiles = in_one_spelling(lockfiles)
         self.doubled = doubled_names(lockfiles)
         self.sides = [Side(*it, self.doubled) for it in zip(ROLES, lockfiles)]
         self.base, self.ours, self.theirs = self.sides

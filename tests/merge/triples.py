@@ -8,7 +8,8 @@ import copy
 import dataclasses
 import random
 
-from lockfiles import CRATES_IO, Identity, Lockfile, Package, Source, print_text, version_order
+from lockfiles import CRATES_IO, Identity, Lockfile, Package, Source, print_text, respelt
+from lockfiles import sources_of, version_order
 
 NAMES = ["atom", "bits", "cell", "disk", "edge", "fold"]
 LINES = ["1.", "2.", "0.3.", "0.4.", "0.0."]
@@ -298,6 +299,39 @@ def spoil(rng, lockfile):
             lockfile.packages.append(Package(other, sourced[0].checksum))
 
 
+# Other spellings of URLs, which Cargo takes for the same.
+SPELLINGS = {
+    "https://github.com/rust-lang/crates.io-index": [
+        "https://github.com/Rust-Lang/crates.io-index.git",
+        "http://github.com/rust-lang/crates.io-index/"],
+    "https://example.org/index": ["https://example.org/index/", "https://example.org/index.git"],
+    "https://example.org/left-right": ["https://example.org/left-right.git",
+                                       "https://example.org/left-right.git/"],
+    "https://github.com/Name/Tools.git": ["https://github.com/name/tools",
+                                          "ssh://github.com/NAME/Tools/"],
+}
+
+
+def some_spellings(rng, lockfiles):
+    """The lockfiles of the base and of both sides, some of them with other spellings of sources."""
+    made = [{}, {}, {}]
+    for url, others in SPELLINGS.items():
+        base = rng.choice([url, *others]) if rng.random() < 0.2 else url
+        now = [base, *(rng.choice([url, *others]) if rng.random() < 0.3 else base for _ in range(2))]
+        for urls, other in zip(made, now):
+            urls[url] = other
+    return [spelt_so(*it) for it in zip(lockfiles, made)]
+
+
+def spelt_so(lockfile, urls):
+    linked = [to for it in lockfile.packages for to in (*it.dependencies, it.replacement) if to]
+    sources = sources_of(lockfile) + [it.source for it in linked if it.source]
+    made = respelt(lockfile, {it.form(): urls.get(it.url, it.url) for it in sources})
+    for package in made.packages:
+        package.dependencies.sort(key=Identity.dependency_order)
+    return made
+
+
 def some_comments(rng):
     """The comments of the base, of ours and of theirs."""
     kinds = [(), ("# by our team",), ("#", "# It is not intended for manual editing."), ("#\u00e9\"",)]
@@ -318,5 +352,8 @@ def triple(seed):
         lockfiles[0] = Lockfile(2, [])
     if rng.random() < 0.02:
         spoil(rng, rng.choice(lockfiles))
+    rng = random.Random(f"spellings {seed}")
+    if rng.random() < 0.25:
+        lockfiles = some_spellings(rng, lockfiles)
     comments = some_comments(random.Random(f"comments {seed}"))
     return [print_text(*it) if it[0].packages else "" for it in zip(lockfiles, comments)]

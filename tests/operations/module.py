@@ -24,6 +24,7 @@ NAMED += ["cargo_lock_flaws", "cargo_lock_table_flaws", "cargo_lock_layout", "ca
 NAMED += ["cargo_lock_report", "cargo_lock_diff", "cargo_lock_display", "cargo_lock_query"]
 NAMED += ["cargo_lock_merge", "cargo_lock_merge_core", "cargo_lock_diagram", "cargo_lock_verify"]
 NAMED += ["cargo_lock_audit", "cargo_lock_licenses", "cli_folders", "printing"]
+NAMED += ["cargo_lock_metadata"]
 NAMED += ["cargo_lock_json", "cargo_lock_index", "cargo_lock_order", "cargo_lock_edges", "cargo_lock_limit"]
 NAMED += ["semver", "url", "toml", "serde", "serde_json", "uuid"]
 # The crate whose exports are called. Its private modules are public in the copy that is lowered.

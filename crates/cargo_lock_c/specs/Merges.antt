@@ -5,7 +5,7 @@ use Rattle.cargo_lock.specs.CargoChecksums.{with_cargo_checksums_in}
 use Rattle.cargo_lock_encoding.specs.Lockfiles.{LockfileData}
 use Rattle.cargo_lock_encoding.specs.Means.{TextMeans}
 use Rattle.cargo_lock_merge.specs.Comments.{comments_line}
-use Rattle.cargo_lock_merge.specs.Inputs.{AreInputComments, IsInputOf, lockfiles_in}
+use Rattle.cargo_lock_merge.specs.Inputs.{AreInputComments, AreInputsOf, IsInputOf, lockfiles_in}
 use Rattle.cargo_lock_merge.specs.Lines.{conflicts_text, merge_error_text, remark_lines}
 use Rattle.cargo_lock_merge.specs.MergedLockfiles.{IsMergeError, MergesTo}
 use Rattle.cargo_lock_merge.specs.declared.comments.MergedComments.{MergedComments}
@@ -43,11 +43,11 @@ abbrev pub IsInputOfText : List ℕ → MergeInput → Type 0
 IsInputOfText text input = (l : LockfileData) × TextMeans text l
     × IsInputOf (with_cargo_checksums_in l) text input
 
--- these are the inputs of the three texts
-pub record AreOfTexts (first second third : List ℕ) (inputs : MergeInputs) : Type 0 where
-  pub base : IsInputOfText first inputs.base
-  pub ours : IsInputOfText second inputs.ours
-  pub theirs : IsInputOfText third inputs.theirs
+-- these are the inputs of the three texts, in which each source has one spelling
+abbrev pub AreOfTexts : (first second third : List ℕ) → MergeInputs → Type 0
+AreOfTexts first second third inputs = (base : MergeInput) × (ours : MergeInput)
+    × (theirs : MergeInput) × IsInputOfText first base × IsInputOfText second ours
+    × IsInputOfText third theirs × AreInputsOf base ours theirs inputs
 
 -- Why three texts have no merge: memory ran out, or one of them is not that of a lockfile or not
 -- UTF-8. They are read in their order.

@@ -4,7 +4,8 @@ ghost use Rattle.std.specs.Prelude.{◌≡◌, ◌≤◌, IfErr, IfOk, List, ℕ
 ghost use Rattle.cargo_lock_c.specs.Merges.{AreOfTexts, IsInputOfText, LacksMerge, MeansLockfile};
 ghost use Rattle.cargo_lock_c.specs.Statuses.{status_of};
 ghost use Rattle.cargo_lock_c.specs.Texts.{RefusesText};
-ghost use Rattle.cargo_lock_merge.specs.Inputs.{IsInputOf};
+ghost use Rattle.cargo_lock_merge.specs.Inputs.{AreInputsOf, IsInputOf};
+ghost use Rattle.cargo_lock_c.specs.declared.refusal.Refusal.TheVariants.{NoMemory};
 
 use crate::difference::compared;
 use crate::reading::read;
@@ -27,11 +28,24 @@ pub(crate) fn read_three(
     let first = read_first(alloc, base)?;
     let second = read_second(alloc, ours)?;
     let third = read_third(alloc, theirs)?;
-    Ok(MergeInputs {
-        base: first,
-        ours: second,
-        theirs: third,
-    })
+    let inputs = inputs_of(alloc, first, second, third)?;
+    Ok(inputs)
+}
+
+/// The inputs of a merge, in which each source has one spelling.
+fn inputs_of(
+    alloc: Global,
+    base: MergeInput,
+    ours: MergeInput,
+    theirs: MergeInput,
+) -> Result<MergeInputs, Refusal>
+    ensures ok { IfOk result (AreInputsOf base ours theirs) }
+    ensures err { IfErr result (λ refusal. refusal ≡ NoMemory) }
+{
+    match MergeInputs::new(alloc, base, ours, theirs) {
+        Ok(inputs) => Ok(inputs),
+        Err(_) => Err(Refusal::NoMemory),
+    }
 }
 
 /// The input of the first text's bytes.

@@ -23,9 +23,9 @@ use Rattle.cargo_lock_parts.specs.IdentityLaws.{tied-first, tied-second}
 use Rattle.cargo_lock_parts.specs.SourceKey.{Key, git_reference_text, key_of, kind_cmp, kind_number, precise_if_git, text_cmp}
 use Rattle.cargo_lock_parts.specs.SourceLaws.{key_same}
 use Rattle.cargo_lock_parts.proofs.RankLemmas.{rank_one_is_equal_keys}
-use Rattle.cargo_lock_graph.specs.Candidates.{identity_as_key}
+use Rattle.cargo_lock_graph.specs.Keys.{identity_as_key}
 use Rattle.cargo_lock_graph.specs.Targets.{Matches, rank_between}
-use Rattle.cargo_lock_graph.proofs.BestCandidates.{same-identity}
+use Rattle.cargo_lock_graph.proofs.Targets.{same-identity}
 use Rattle.lists.specs.Groups.{GroupedData}
 use Rattle.cargo_lock_edges.specs.Group.{Group, asks_open, compared_kind, compared_text, group_cmp, group_for, group_of, group_total, group_with, has_precise, source_group}
 use Rattle.cargo_lock_edges.specs.Groups.{IsGrouped, IsPutInGroup, places_in_group}

@@ -7,7 +7,7 @@ use Rattle.std.specs.List.{Contains}
 use Rattle.std.proofs.lemmas.Bool.{cases_eq, false≢true}
 use Rattle.std.proofs.lemmas.Option.{slice_get_within, same_Some}
 use Rattle.cargo_lock_parts.specs.Identity.{Identity, PackageData, identity_of}
-use Rattle.cargo_lock_graph.specs.Candidates.{identity_as_key}
+use Rattle.cargo_lock_graph.specs.Keys.{identity_as_key}
 use Rattle.cargo_lock_graph.specs.Targets.{IsLost, MatchesAt}
 use Rattle.lists.specs.Groups.{GroupedData, HasPutByKey, group_number, places_or_none}
 use Rattle.lists.specs.Marks.{IsMarked}

@@ -12,3 +12,5 @@ pub mod LeadsOnce
 pub mod OwnLaws
 pub mod TargetsFound
 pub mod SettledGraph
+pub mod TreeEdges
+pub mod NodePlaces

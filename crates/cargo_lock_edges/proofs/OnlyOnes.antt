@@ -9,9 +9,9 @@ use Rattle.std.proofs.lemmas.Option.{same_Some, slice_get-map}
 use Rattle.cargo_lock_parts.specs.Identity.{HasNameAndVersion, Identity, PackageData, identity_of}
 use Rattle.cargo_lock_parts.specs.PartialIdentity.{PartialIdentity, is_same_partial_identity, name_and_version}
 use Rattle.cargo_lock_index.specs.Near.{first_from, first_place}
-use Rattle.cargo_lock_graph.specs.Candidates.{versions_of}
+use Rattle.cargo_lock_graph.specs.Keys.{versions_of}
 use Rattle.cargo_lock_graph.specs.Targets.{IsLost, Matches, MatchesAt, rank_between}
-use Rattle.cargo_lock_graph.proofs.BestCandidates.{same-version}
+use Rattle.cargo_lock_graph.proofs.Targets.{same-version}
 use Rattle.cargo_lock_edges.specs.Groups.{AreOnly, IsNamedAt, IsOnlyPlace, fits_source, is_only_one}
 use Rattle.lists.specs.Marks.{IsMarked}
 use Rattle.cargo_lock_edges.specs.Best.{IsOneOfBest}

@@ -6,7 +6,7 @@ use Rattle.std.proofs.lemmas.Option.{same_Some}
 use Rattle.cargo_lock_parts.specs.Identity.{Identity, IdentityKey, PackageData}
 use Rattle.cargo_lock_graph.specs.Edges.{Edge}
 use Rattle.cargo_lock_graph.specs.Targets.{HasIdentity, HasTarget, IsTarget, Link}
-use Rattle.cargo_lock_graph.proofs.BestCandidates.{exact-target}
+use Rattle.cargo_lock_graph.proofs.Targets.{exact-target}
 use Rattle.cargo_lock_edges.specs.Laws.{IdentityIsNearest, LostHaveNoOwnEdges, OthersLeadAsInTrees, OwnWordsComeFirst, ReplacedLeadOn}
 use Rattle.cargo_lock_edges.specs.Leads.{LeadsToPackage, IsInItsPlace}
 use Rattle.cargo_lock_edges.specs.Nearest.{IsOfOwnWords}

@@ -6,7 +6,7 @@ use Rattle.cargo_lock_parts.specs.Identity.{HasNameAndVersion, Identity, Package
 use Rattle.cargo_lock_parts.specs.PartialIdentity.{PartialIdentity}
 use Rattle.cargo_lock_parts.specs.Rank.{has_rank_1, has_rank_2, has_rank_3, has_rank_4}
 use Rattle.cargo_lock_parts.specs.Source.{Source}
-use Rattle.cargo_lock_graph.specs.Candidates.{identity_as_key}
+use Rattle.cargo_lock_graph.specs.Keys.{identity_as_key}
 use Rattle.cargo_lock_graph.specs.Targets.{rank_between}
 use Rattle.lists.specs.Groups.{GroupedData, group_number, places_or_none}
 use Rattle.lists.proofs.Members.{none-in}

@@ -9,7 +9,7 @@ use Rattle.cargo_lock_parts.specs.declared.error.Error.{Error}
 use Rattle.cargo_lock_parts.specs.declared.error.Error.TheVariants.{Io, Memory, Parse, Resolution, Version}
 use Rattle.cargo_lock_graph.specs.Edges.{Edge, GraphData}
 use Rattle.cargo_lock_graph.specs.Targets.{AreEdgesOf, HasIdentity, HasTarget, HoldsOf, IsEdgeOf, IsFirstLost, IsLastWith, IsLost, IsTarget, IsUnresolved, Link, Matches, MatchesAt, links, links_of, links_to, rank_between}
-use Rattle.cargo_lock_graph.proofs.BestCandidates.{exact-target}
+use Rattle.cargo_lock_graph.proofs.Targets.{exact-target}
 use Rattle.cargo_lock_edges.specs.Leads.{LeadsToPackage}
 use Rattle.cargo_lock_edges.specs.OwnGraph.{IsAlikeButForWords, IsOwnEdgeOf, IsOwnGraph}
 use Rattle.cargo_lock_edges.specs.Settled.{AreSettled, IsOfLead, IsSettledAs, IsSettledPackage}

@@ -6,7 +6,7 @@ use Rattle.std.proofs.lemmas.Option.{same_Some, slice_get_within}
 use Rattle.cargo_lock_parts.specs.Identity.{HasNameAndVersion, Identity, PackageData, identity_of}
 use Rattle.cargo_lock_parts.specs.PartialIdentity.{name_and_version, partial_identity_cmp}
 use Rattle.cargo_lock_graph.specs.Targets.{IsLost, IsTarget, Matches, MatchesAt, rank_between}
-use Rattle.cargo_lock_graph.proofs.BestCandidates.{same-version}
+use Rattle.cargo_lock_graph.proofs.Targets.{same-version}
 
 -- whether the package at a place matches
 abbrev MatchesOrNot : List PackageData → Identity → ℕ → Type 0

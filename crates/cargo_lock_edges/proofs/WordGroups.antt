@@ -6,7 +6,7 @@ use Rattle.std.proofs.lemmas.Option.{same_Some, slice_get_within}
 use Rattle.cargo_lock_parts.specs.Identity.{HasNameAndVersion, Identity, PackageData, identity_key, identity_of}
 use Rattle.cargo_lock_parts.specs.Source.{Source, is_git}
 use Rattle.cargo_lock_parts.specs.SourceKey.{Key, key_of}
-use Rattle.cargo_lock_graph.specs.Candidates.{identity_as_key}
+use Rattle.cargo_lock_graph.specs.Keys.{identity_as_key}
 use Rattle.lists.specs.Groups.{GroupedData, group_number, places_or_none}
 use Rattle.lists.proofs.Members.{none-in}
 use Rattle.cargo_lock_edges.specs.Group.{Group, group_cmp, group_of, is_from_git, words_group_of}

@@ -20,7 +20,7 @@ use Rattle.cargo_lock_parts.specs.Rank.{commit_of}
 use Rattle.cargo_lock_parts.specs.Source.{Kind, Source, is_git}
 use Rattle.cargo_lock_parts.specs.SourceKey.{git_reference_text, kind_cmp}
 use Rattle.cargo_lock_parts.specs.SourceKey.{kind_number, text_cmp}
-use Rattle.cargo_lock_graph.specs.Candidates.{identity_as_key}
+use Rattle.cargo_lock_graph.specs.Keys.{identity_as_key}
 
 -- what the packages of a group have in common
 pub record Group : Type 0 where

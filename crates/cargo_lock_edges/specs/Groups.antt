@@ -7,8 +7,8 @@ use Rattle.std.specs.List.{AllPairs, Contains}
 use Rattle.cargo_lock_index.specs.Near.{IsIndexOf, Placed, is_only}
 use Rattle.cargo_lock_parts.specs.Identity.{HasNameAndVersion, Identity, PackageData, identity_of}
 use Rattle.cargo_lock_parts.specs.PartialIdentity.{name_and_version}
-use Rattle.cargo_lock_graph.specs.Candidates.{identity_as_key, versions_of}
-use Rattle.cargo_lock_graph.specs.Targets.{HoldsOf, Matches, MatchesAt, rank_between}
+use Rattle.cargo_lock_graph.specs.Keys.{identity_as_key, versions_of}
+use Rattle.cargo_lock_graph.specs.Targets.{HasIdentity, HoldsOf, Matches, MatchesAt, rank_between}
 use Rattle.lists.specs.Groups.{GroupedData, key_places}
 use Rattle.lists.specs.Marks.{IsMarked}
 use Rattle.cargo_lock_edges.specs.declared.groups.BestGroup.{BestGroup}
@@ -76,6 +76,10 @@ pub record HasGrouped (old new : GroupedData Group) (p : PackageData) (place : �
 -- the package at the place has the identity's name and version
 abbrev pub IsNamedAt : List PackageData → Identity → ℕ → Type 0
 IsNamedAt packages i place = HoldsOf (HasNameAndVersion i) packages place
+
+-- the package at the place has the identity
+abbrev pub HasIdentityAt : List PackageData → Identity → ℕ → Type 0
+HasIdentityAt packages i place = HoldsOf (HasIdentity i) packages place
 
 -- exactly one of the packages has the package's name and version
 abbrev pub is_only_one : List PackageData → PackageData → Bool

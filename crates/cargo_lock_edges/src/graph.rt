@@ -4,8 +4,8 @@ ghost use Rattle.std.specs.Prelude.{IfErr, IfOk};
 ghost use Rattle.cargo_lock_graph.specs.Targets.{IsUnresolved, links};
 ghost use Rattle.cargo_lock_edges.specs.OwnGraph.{IsOwnGraph};
 
+use crate::building::graph_from;
 use crate::settled::settled_packages;
-use cargo_lock_graph::building::graph_from;
 use cargo_lock_graph::graph::Graph;
 use cargo_lock_parts::error::Result;
 use cargo_lock_parts::package::Package;

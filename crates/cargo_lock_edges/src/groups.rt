@@ -5,18 +5,19 @@
 //! them.
 
 ghost use Rattle.std.specs.Prelude.{◌≡◌, ◌<◌, ◌≤◌, ℕ, IfOk, List, MatchOption, OnOk, Some, length};
-ghost use Rattle.std.specs.Prelude.{IsOkUnless, slice_get};
+ghost use Rattle.std.specs.Prelude.{IsOkUnless, false, slice_get, true};
 ghost use Rattle.std.specs.Bool.{Decides};
 ghost use Rattle.std.specs.List.{AllPairs};
-ghost use Rattle.cargo_lock_parts.specs.Identity.{PackageData, identity_of};
+ghost use Rattle.cargo_lock_parts.specs.Identity.{Identity, PackageData, identity_of};
 ghost use Rattle.cargo_lock_parts.specs.declared.error.Error.TheVariants.{Memory};
 ghost use Rattle.cargo_lock_index.specs.Near.{IsIndexOf};
-ghost use Rattle.cargo_lock_graph.specs.Candidates.{identity_as_key, versions_of};
+ghost use Rattle.cargo_lock_graph.specs.Keys.{identity_as_key, versions_of};
 ghost use Rattle.cargo_lock_graph.specs.Targets as target;
-ghost use Rattle.cargo_lock_graph.specs.Targets.{IsLost, Matches, MatchesAt};
+ghost use Rattle.cargo_lock_graph.specs.Targets.{HasIdentity, IsLost, Matches, MatchesAt};
 ghost use Rattle.cargo_lock_edges.specs.Group.{group_of, pinned_group_of};
 ghost use Rattle.cargo_lock_edges.specs.Groups.{AreInGroups, AreNamed, AreOnly, AreShared};
-ghost use Rattle.cargo_lock_edges.specs.Groups.{HasGrouped, HasMatch, HasMatches, HasPinned};
+ghost use Rattle.cargo_lock_edges.specs.Groups.{HasGrouped, HasIdentityAt, HasMatch, HasMatches};
+ghost use Rattle.cargo_lock_edges.specs.Groups.{HasPinned};
 ghost use Rattle.cargo_lock_edges.specs.Groups.{HasPutInGroup, IsBest, IsBestGroup, IsNamedAt};
 ghost use Rattle.cargo_lock_edges.specs.Groups.{IsOnlyPlace, IsPinned, IsPinnedMatch, fits_source};
 ghost use Rattle.cargo_lock_edges.specs.Groups.{group_places, is_only_one};
@@ -130,6 +131,16 @@ impl<'a> Groups<'a> {
         &packages[place]
     }
 
+    // Whether the package at a place is the only one of its name and version.
+    pub(crate) fn is_only(&self, place: usize) -> bool
+        ensures only { result ≡ true → (i : Identity) → IsNamedAt self.now.packages i place
+            → IsOnlyPlace self.now.packages i place }
+        ensures shared { result ≡ false → (i : Identity) → IsNamedAt self.now.packages i place
+            → AreShared self.now i }
+    {
+        is_marked(&self.only, place)
+    }
+
     /// How many groups there are.
     pub fn count(&self) -> usize
         ensures { result ≡ length self.now.places }
@@ -184,7 +195,7 @@ impl<'a> Groups<'a> {
         let Some(place) = self.first_named(dependency) else {
             return Named::No;
         };
-        if !is_marked(&self.only, place) {
+        if !self.is_only(place) {
             return Named::Several;
         }
         Named::Only(place)
@@ -256,6 +267,19 @@ impl<'a> Groups<'a> {
         }
     }
 
+    // The group of the packages that can have the identity of this one. `None` if it is empty.
+    pub(crate) fn same_group(&self, package: &'a Package) -> Option<usize>
+        requires { AreShared self.now (identity_of «package».now) }
+        ensures { MatchOption result
+            ((k : ℕ) → ¬ MatchesAt self.now.packages (identity_of «package».now) k 1)
+            (HasMatches self.now (identity_of «package».now) 1) }
+    {
+        match group_of(1, false, package_key(package)) {
+            Some(group) => self.groups.number(&group),
+            None => None,
+        }
+    }
+
     // The group of the packages that can match a dependency with its commit and its reference. `None`
     // if it is empty.
     pub(crate) fn pinned_group(&self, dependency: &'a Dependency) -> Option<usize>
@@ -298,6 +322,17 @@ impl<'a> Groups<'a> {
     {
         match self.packages.get(place) {
             Some(package) => is_pinned_match(dependency, package),
+            None => false,
+        }
+    }
+
+    // Whether the package at a place has the identity of this one.
+    pub(crate) fn has_identity_of(&self, package: &Package, place: usize) -> bool
+        ensures { Decides result
+            (HasIdentityAt self.now.packages (identity_of «package».now) place) }
+    {
+        match self.packages.get(place) {
+            Some(other) => has_identity_of(package, other),
             None => false,
         }
     }
@@ -436,6 +471,13 @@ fn is_only<'a>(places: &Places<'a>, package: &'a Package) -> bool
         → result ≡ is_only_one packages «package».now }
 {
     places.is_only(PartialIdentity::name_and_version(&package.name, &package.version))
+}
+
+// Whether the second package has the identity of the first one.
+fn has_identity_of(package: &Package, other: &Package) -> bool
+    ensures { Decides result (HasIdentity (identity_of «package».now) other.now) }
+{
+    package_key(package) == package_key(other)
 }
 
 fn is_match(rank: u8, dependency: &Dependency, package: &Package) -> bool

@@ -2,7 +2,7 @@
 
 ghost use Rattle.std.specs.Prelude.{◌≡◌};
 ghost use Rattle.cargo_lock_parts.specs.Identity.{identity_of};
-ghost use Rattle.cargo_lock_graph.specs.Candidates.{identity_as_key};
+ghost use Rattle.cargo_lock_graph.specs.Keys.{identity_as_key};
 
 use cargo_lock_parts::dependency::Dependency;
 use cargo_lock_parts::package::{Package, PartialIdentity};

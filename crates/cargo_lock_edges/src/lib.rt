@@ -1,9 +1,11 @@
-//! Where the dependencies of packages lead in this project's own commands.
+//! Where the dependencies of packages lead, and the graphs that they make.
 //!
-//! A dependency leads to the package of its own words first, and to what replaces that package. The
-//! trees of `cargo_lock` have the rule of the Rust crate instead, which is `cargo_lock_graph`'s.
+//! In this project's own commands a dependency leads to the package of its own words first, and to
+//! what replaces that package (`Groups::lead`). The trees of `cargo_lock` have the rule of the Rust
+//! crate instead (`Groups::target`). Both find the package by the same groups.
 #![tactic(auto)]
 
+pub mod building;
 pub mod graph;
 mod group;
 pub mod groups;
@@ -12,6 +14,7 @@ pub mod laws;
 mod leads;
 mod likeness;
 mod nearest;
+mod nodes;
 pub mod settled;
 mod targets;
 pub mod words;

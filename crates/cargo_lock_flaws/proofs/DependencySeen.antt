@@ -13,9 +13,9 @@ use Rattle.cargo_lock_parts.specs.IdentityLaws.{identity_total, is_same_identity
 use Rattle.cargo_lock_parts.specs.IdentityOrder.{identity_cmp}
 use Rattle.cargo_lock_parts.specs.Identity.{Identity, identity_key}
 use Rattle.cargo_lock_parts.specs.PartialIdentity.{PartialIdentity, partial_identity_cmp}
-use Rattle.cargo_lock_graph.specs.Candidates.{identity_as_key}
+use Rattle.cargo_lock_graph.specs.Keys.{identity_as_key}
 use Rattle.cargo_lock_graph.specs.Targets.{IsLastBelow}
-use Rattle.cargo_lock_graph.proofs.BestCandidates.{last-new, last-same, same-identity}
+use Rattle.cargo_lock_graph.proofs.Targets.{last-new, last-same, same-identity}
 use Rattle.cargo_lock_flaws.specs.Dependencies.{DoAscend, HoldsOfDependency, IsListedBefore, IsSameDependency}
 use Rattle.cargo_lock_flaws.specs.Seen.{AreLastDependencies}
 

@@ -10,9 +10,9 @@ use Rattle.cargo_lock_parts.specs.Source.{Source, is_remote_registry}
 use Rattle.cargo_lock_parts.specs.SourceKey.{is_same_source, key_of}
 use Rattle.cargo_lock_parts.specs.SourceLaws.{is_same_source-Decides}
 use Rattle.cargo_lock_index.specs.Near.{last_place}
-use Rattle.cargo_lock_graph.specs.Candidates.{identity_as_key, keys_of}
+use Rattle.cargo_lock_graph.specs.Keys.{identity_as_key, keys_of}
 use Rattle.cargo_lock_graph.specs.Targets.{HasIdentity, HoldsOf, IsLastWith}
-use Rattle.cargo_lock_graph.proofs.BestAlike.{last-like}
+use Rattle.cargo_lock_graph.proofs.KeyPlaces.{last-like}
 use Rattle.cargo_lock_flaws.specs.Packages.{HasChecksumFrom, IsFirstUnchecked, IsOwnFrom, IsTwice, IsUnchecked, IsWithoutChecksum, LacksChecksum, source_unless_replaced}
 use Rattle.cargo_lock_flaws.specs.Seen.{AreChecked, AreOwn, LacksChecksumAmong, is_new, is_source_among}
 

@@ -7,7 +7,7 @@ use Rattle.cargo_lock_parts.specs.Identity.{Identity, PackageData}
 use Rattle.cargo_lock_parts.specs.PartialIdentity.{PartialIdentity, partial_identity_cmp}
 use Rattle.cargo_lock_parts.specs.Source.{Source, is_remote_registry}
 use Rattle.cargo_lock_parts.specs.SourceKey.{source_cmp}
-use Rattle.cargo_lock_graph.specs.Candidates.{identity_as_key}
+use Rattle.cargo_lock_graph.specs.Keys.{identity_as_key}
 use Rattle.cargo_lock_graph.specs.Targets.{HoldsOf, IsLastBelow}
 use Rattle.cargo_lock_flaws.specs.Dependencies.{HoldsOfDependency, IsSameDependency}
 use Rattle.cargo_lock_flaws.specs.Packages.{HasChecksumFrom, IsOwnFrom}

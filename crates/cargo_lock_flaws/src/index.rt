@@ -2,7 +2,7 @@
 
 ghost use Rattle.std.specs.Prelude.{IfOk};
 ghost use Rattle.cargo_lock_index.specs.Near.{IsIndexOf};
-ghost use Rattle.cargo_lock_graph.specs.Candidates.{keys_of};
+ghost use Rattle.cargo_lock_graph.specs.Keys.{keys_of};
 
 use cargo_lock_edges::index::package_key;
 use cargo_lock_index::places::{Keys, Places};

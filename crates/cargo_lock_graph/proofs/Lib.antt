@@ -1,5 +1,3 @@
-pub mod BestAlike
-pub mod BestCandidates
 pub mod DrawingCount
 pub mod DrawingFirst
 pub mod DrawingLines
@@ -16,6 +14,7 @@ pub mod EdgesOnce
 pub mod FrameCount
 pub mod FrameLevels
 pub mod GraphEnds
+pub mod KeyPlaces
 pub mod Listing
 pub mod MadeChains
 pub mod ParsedVersions
@@ -23,7 +22,7 @@ pub mod PrefixLemmas
 pub mod ReadLineLemmas
 pub mod RenderWrites
 pub mod SinkWrites
-pub mod TreeEdges
+pub mod Targets
 pub mod VersionWrites
 pub mod WalkLevels
 pub mod WalkSteps

@@ -17,4 +17,4 @@ pub mod WalkState
 pub mod Frames
 pub mod Targets
 pub mod VersionText
-pub mod Candidates
+pub mod Keys

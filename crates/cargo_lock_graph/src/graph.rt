@@ -85,12 +85,17 @@ impl EdgeDirection {
     }
 }
 
-// An edge as it is stored.
+/// An edge as a graph stores it.
 #[derive(Debug, Drop)]
-pub(crate) struct StoredEdge {
-    pub(crate) source: NodeIndex,
-    pub(crate) target: NodeIndex,
-    pub(crate) dependency: Dependency,
+pub struct StoredEdge {
+    /// The node that it leaves.
+    pub source: NodeIndex,
+
+    /// The node that it enters.
+    pub target: NodeIndex,
+
+    /// The dependency that it represents.
+    pub dependency: Dependency,
 }
 
 impl Model for StoredEdge {
@@ -232,7 +237,13 @@ impl Chains {
 }
 
 impl Graph {
-    pub(crate) fn new(
+    /// The graph of these packages and edges. Both ends of each edge must be nodes: below the number
+    /// of packages. Fails when out of memory.
+    ///
+    /// ```
+    /// let graph = Graph::new(alloc, packages, edges)?;
+    /// ```
+    pub fn new(
         alloc: Global,
         packages: Vec<Package>,
         edges: Vec<StoredEdge>,
@@ -416,7 +427,7 @@ impl Clone for Graph {
     }
 }
 
-pub(crate) fn clone_packages(packages: &Vec<Package>) -> Result<Vec<Package>, AllocError>
+fn clone_packages(packages: &Vec<Package>) -> Result<Vec<Package>, AllocError>
     ensures { IfOk result (λ copy. copy.items ≡ packages.now.items) }
 {
     packages.clone()

@@ -3,10 +3,8 @@
 //! The crate `cargo_lock` exports what its users need of this under its own paths. Use that one.
 #![tactic(auto)]
 
-pub mod building;
 pub mod drawing;
 pub mod graph;
 pub mod laws;
 pub mod listed;
-pub mod targets;
 pub mod versions;

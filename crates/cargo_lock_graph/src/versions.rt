@@ -3,7 +3,7 @@
 ghost use Rattle.std.specs.Prelude.{◌≡◌, IfOk, None, Some, length, slice_get};
 ghost use Rattle.cargo_lock_parts.specs.Identity.{HasNameAndVersion, PackageData, identity_of};
 ghost use Rattle.cargo_lock_index.specs.Near.{IsIndexOf};
-ghost use Rattle.cargo_lock_graph.specs.Candidates.{versions_of};
+ghost use Rattle.cargo_lock_graph.specs.Keys.{versions_of};
 ghost use Rattle.cargo_lock_graph.specs.Targets.{HoldsOf, IsLastBelow, rank_between};
 
 use cargo_lock_index::places::{Keys, Places};
@@ -32,7 +32,7 @@ impl<'a> Model for Versions<'a> {
     ghost use Rattle.std.specs.Prelude.{List};
     ghost use Rattle.cargo_lock_index.specs.Near.{IsIndexOf};
     ghost use Rattle.cargo_lock_parts.specs.Identity.{PackageData};
-    ghost use Rattle.cargo_lock_graph.specs.Candidates.{versions_of};
+    ghost use Rattle.cargo_lock_graph.specs.Keys.{versions_of};
 
     ghost Value = { List PackageData };
 

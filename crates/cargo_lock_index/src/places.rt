@@ -8,12 +8,11 @@ ghost use Rattle.std.specs.Ordering.{is_eq, is_lt};
 ghost use Rattle.std.specs.List.{AllWithin, filter};
 ghost use Rattle.std.specs.List.Sorted.{IsNonDecreasingBy, IsSorted, IsStable};
 ghost use Rattle.cargo_lock_parts.specs.PartialIdentity.{PartialIdentity};
-ghost use Rattle.cargo_lock_index.specs.Alike.{AreAllAlike, alike_cmp, url_cmp, without_source};
 ghost use Rattle.cargo_lock_index.specs.Near as spec;
 ghost use Rattle.cargo_lock_index.specs.Near.{IsIndexOf, entry_cmp, has_key, passes, place_before};
 ghost use Rattle.cargo_lock_index.specs.Near.{place_if, tail_place};
 
-use cargo_lock_parts::package::{Name, PartialIdentity, SourceId};
+use cargo_lock_parts::package::{Name, PartialIdentity};
 use std::alloc::{AllocError, Global};
 use std::cmp::Ordering;
 use std::marker::Model;
@@ -43,29 +42,6 @@ fn beginning(name: &Name) -> u64
         byte_at(bytes, 6),
         byte_at(bytes, 7),
     ])
-}
-
-// A key without its source.
-fn without_source<'a>(key: &PartialIdentity<'a>) -> PartialIdentity<'a>
-    ensures { result ≡ without_source key.now }
-{
-    PartialIdentity {
-        name: key.name,
-        version: key.version,
-        source: None,
-    }
-}
-
-// Compares the URLs of two sources. An absent source is before a present one.
-fn cmp_urls(a: Option<&SourceId>, b: Option<&SourceId>) -> Ordering
-    ensures { result ≡ url_cmp (option_map (λ s. s.now) a.entry) (option_map (λ s. s.now) b.entry) }
-{
-    match (a, b) {
-        (None, None) => Ordering::Equal,
-        (None, Some(_)) => Ordering::Less,
-        (Some(_), None) => Ordering::Greater,
-        (Some(a), Some(b)) => a.url().cmp(b.url()),
-    }
 }
 
 /// A key of a list, and its place in the list.
@@ -98,24 +74,6 @@ impl<'a> Entry<'a> {
             place,
             key,
         }
-    }
-
-    /// The place of the key in the list.
-    pub fn place(&self) -> usize
-        ensures { result ≡ self.now.place }
-    {
-        self.place
-    }
-
-    // Compares the names, the versions and the URLs of the sources.
-    fn cmp_alike(&self, other: &Entry<'_>) -> Ordering
-        ensures { result ≡ alike_cmp self.now.key other.now.key }
-    {
-        let order = match self.beginning.cmp(&other.beginning) {
-            Ordering::Equal => without_source(&self.key).cmp(&without_source(&other.key)),
-            order => order,
-        };
-        order.then(cmp_urls(self.key.source, other.key.source))
     }
 
     // Compares the keys.
@@ -193,17 +151,6 @@ impl<'a> Ord for Entry<'a> {
     fn cmp(&self, other: &Entry<'a>) -> Ordering {
         self.cmp_key(other)
     }
-}
-
-// The entries whose keys have the name, the version and the URL of another entry's key.
-fn alike_among<'e, 'a>(entries: &'e [Entry<'a>], sought: &Entry<'_>) -> &'e [Entry<'a>]
-    requires { IsSorted entry_cmp entries.now }
-    ensures { result.now ≡ filter (λ e. is_eq (alike_cmp e.key sought.now.key)) entries.now }
-{
-    let start = entries.partition_point(|entry| entry.cmp_alike(sought).is_lt());
-    let rest = &entries[start..];
-    let count = rest.partition_point(|entry| entry.cmp_alike(sought).is_eq());
-    &rest[..count]
 }
 
 // The entries of another entry's key.
@@ -394,15 +341,6 @@ impl<'a> Places<'a> {
             → result ≡ spec.last_place key.entry (take place keys) }
     {
         last_below(same_among(&self.entries, &Entry::of(key, 0)), place)
-    }
-
-    /// The entries of the keys with the name, the version and the URL of this key, whatever else
-    /// their sources have. The entries are neighbours, so no other is visited.
-    pub fn alike(&self, key: PartialIdentity<'_>) -> &[Entry<'a>]
-        ensures { (keys : List PartialIdentity) → IsIndexOf keys self.now
-            → AreAllAlike key.entry keys result.now }
-    {
-        alike_among(&self.entries, &Entry::of(key, 0))
     }
 
     // The place of the entry before a position of the order, if there is one and it has the key.

@@ -13,3 +13,5 @@ pub mod OneSide
 pub mod SoundMerges
 pub mod DocumentDepth
 pub mod Documents
+mod PuttingSpellings
+pub mod FavouredLists

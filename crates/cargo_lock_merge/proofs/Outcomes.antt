@@ -1,20 +1,25 @@
 -- The merge of three lists by the numbers of their places.
-use Rattle.std.proofs.Common.{◌≡◌, ◌≢◌, ◌∙◌, ◌⊎◌, ℕ, List, [], Option, Some, None, inl, inr, map, subst, sym}
+use Rattle.std.proofs.Common.{◌≡◌, ◌≢◌, ◌∙◌, ◌⊎◌, ℕ, List, ap, [], Option, Some, None, inl, inr, map, subst, sym}
 use Rattle.std.specs.List.{AllZip, Contains}
 use Rattle.std.specs.List.Sorted.{IsPermutation}
 use Rattle.std.proofs.lemmas.List.Sorted.{Contains-permutation}
 use Rattle.std.proofs.lemmas.Option.{same_Some}
 use Rattle.cargo_lock_parts.specs.Identity.{Identity, PackageData}
+use Rattle.cargo_lock_merge_core.specs.declared.numbered.Numbered.{Numbered}
+use Rattle.cargo_lock_merge_core.specs.declared.placed.Placed.{Placed}
 use Rattle.cargo_lock_merge_core.specs.declared.plan.Plan.{Plan}
 use Rattle.cargo_lock_merge_core.specs.Assembled.{IsAssembled, IsIdentityAt, IsIdentityAtIf}
 use Rattle.cargo_lock_merge_core.specs.Commits.{Lockfiles}
+use Rattle.cargo_lock_merge_core.specs.Lists.{all_numbered}
 use Rattle.cargo_lock_merge_core.specs.Merge.{AreInConflict, IsMerge, Triple}
 use Rattle.cargo_lock_merge_core.specs.Merged.{HasPlan}
+use Rattle.cargo_lock_merge_core.specs.Numbered.{all_data}
 use Rattle.cargo_lock_merge_core.specs.Placed.{PlacedData}
 use Rattle.cargo_lock_merge_core.specs.Moved.{AreListedPackages}
 use Rattle.cargo_lock_merge_core.specs.Plans.{IsNumbered, IsPlan}
 use Rattle.cargo_lock_merge_core.specs.Triples.{AreSidesOf}
 use Rattle.cargo_lock_merge_core.proofs.Assembling.{assembled-merge, list-closed, list-numbered}
+use Rattle.cargo_lock_merge_core.proofs.Landing.{closed-both}
 use Rattle.lists.proofs.Members.{none-in}
 use Rattle.cargo_lock_merge_core.proofs.Zipping.{zip-left, zip-right}
 use Rattle.cargo_lock_merge.specs.declared.conflict.Conflict.{Conflict}
@@ -30,8 +35,7 @@ ready all s (places, are) = record {
   base = list-numbered all places all.base s.base are.base are.base_commits;
   ours = list-numbered all places all.ours s.ours are.ours are.our_commits;
   theirs = list-numbered all places all.theirs s.theirs are.theirs are.their_commits;
-  ours_closed = list-closed all places all.ours s.ours are.ours;
-  theirs_closed = list-closed all places all.theirs s.theirs are.theirs;
+  closed = closed-both s.ours s.theirs (list-closed all places all.ours s.ours are.ours) (list-closed all places all.theirs s.theirs are.theirs);
 }
 
 -- and their plan is one of a merge
@@ -40,8 +44,7 @@ has-plan s plan r is = record {
   base = r.base;
   ours = r.ours;
   theirs = r.theirs;
-  ours_closed = r.ours_closed;
-  theirs_closed = r.theirs_closed;
+  closed = r.closed;
   plan = is;
 }
 
@@ -105,3 +108,7 @@ finds all s (Conflicts conflicts) (places, are) (none, listed, some) = record {
 pub is-outcome : (s : Triple ℕ) (m : List (PlacedData ℕ)) (o : Outcome) → IsMerge s m → IsMergedOf s m o → IsOutcomeOf s o
 is-outcome s m (Merged packages remarks) merge are = (m, merge, are)
 is-outcome s m (Conflicts conflicts) merge are = absurd are
+
+-- the packages at their places are those of the list
+pub same-numbered : (behind : List Placed) (made : List Placed) (taken list : List Numbered) → behind ≡ made → all_data made ≡ all_numbered taken → taken ≡ list → all_data behind ≡ all_numbered list
+same-numbered behind made taken list e f g = ap all_data e ∙ f ∙ ap all_numbered g

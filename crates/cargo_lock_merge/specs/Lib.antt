@@ -6,11 +6,13 @@ pub mod Comments
 pub mod Conflict
 pub mod Notice
 pub mod Outcome
+pub mod Favoured
 pub mod Formats
 pub mod Patches
 pub mod OwnMetadata
 pub mod Referring
 pub mod Spelling
+pub mod Spellings
 pub mod MergedLockfiles
 pub mod Inputs
 pub mod ByPlaces

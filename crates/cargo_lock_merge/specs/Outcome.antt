@@ -9,7 +9,7 @@ use Rattle.cargo_lock_merge_core.specs.LawsOfMerges.{HaveOneCommitEach}
 use Rattle.cargo_lock_merge_core.specs.Merge.{IsMerge, Triple}
 use Rattle.cargo_lock_merge_core.specs.Placed.{PlacedData}
 use Rattle.cargo_lock_merge_core.specs.Places.{IsMergeOf, Place}
-use Rattle.cargo_lock_merge_core.specs.Plans.{IsClosed, IsNumbered}
+use Rattle.cargo_lock_merge_core.specs.Plans.{AreClosed, IsNumbered}
 use Rattle.cargo_lock_merge_core.specs.Triples.{AreSidesOf, triple_in}
 use Rattle.cargo_lock_merge.specs.declared.conflict.Conflict.{Conflict}
 use Rattle.cargo_lock_merge.specs.declared.notice.Remarks.{Remarks}
@@ -84,14 +84,13 @@ IsOutcomeOf s (Merged packages remarks) = (m : List (PlacedData ℕ)) × IsMerge
 IsOutcomeOf s (Conflicts conflicts) = ((m : List (PlacedData ℕ)) → ¬ IsMerge s m)
     × AreConflictsOf s conflicts.items × (conflicts.items ≢ [])
 
--- the lists are in the order of their places, and each of a side has a package for each dependency
--- and replacement
+-- the lists are in the order of their places, and one of the sides has a package for each dependency
+-- and replacement of a side
 pub record AreReady (s : Triple ℕ) : Type 0 where
   pub base : IsNumbered s.base
   pub ours : IsNumbered s.ours
   pub theirs : IsNumbered s.theirs
-  pub ours_closed : IsClosed s.ours
-  pub theirs_closed : IsClosed s.theirs
+  pub closed : AreClosed s.ours s.theirs
 
 -- the lists are those of some lockfiles
 abbrev pub IsTriple : Sides → Type 0

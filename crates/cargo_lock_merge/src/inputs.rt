@@ -1,13 +1,13 @@
 //! The three lockfiles of a merge, with the comments at the top of their texts.
 
-ghost use Rattle.std.specs.Prelude.{IfErr, IfOk, IsOkUnless};
-ghost use Rattle.cargo_lock_merge.specs.Inputs.{AreInputComments, IsInputOf, lockfiles_in};
+ghost use Rattle.std.specs.Prelude.{IfErr, IfOk, IsOkUnless, OnOk};
+ghost use Rattle.cargo_lock_merge.specs.Inputs.{AreInputComments, AreInputsOf, IsInputOf, lockfiles_in};
 ghost use Rattle.cargo_lock_merge.specs.MergedLockfiles.{IsMergeError, MergesTo};
 ghost use Rattle.cargo_lock_parts.specs.declared.error.Error.TheVariants.{Memory};
 
 use crate::comments::{MergedComments, merge_comments};
 use crate::lockfiles::{LockfileMerge, MergeError, merge_lockfiles};
-use crate::spelling::with_cargo_spelling;
+use crate::spellings::MergedSpellings;
 use cargo_lock::Lockfile;
 use cargo_lock_layout::comments_of;
 use cargo_lock_parts::error::Result;
@@ -16,14 +16,14 @@ use std::alloc::Global;
 /// A lockfile of a merge.
 #[derive(Drop)]
 pub struct MergeInput {
-    /// The lockfile, with crates.io as Cargo writes it.
+    /// The lockfile.
     pub lockfile: Lockfile,
 
     /// The comments at the top of its text that Cargo keeps, each with its newline.
     pub comments: String,
 }
 
-/// The lockfiles of a merge.
+/// The lockfiles of a merge. Each source has one spelling in the three.
 #[derive(Drop)]
 pub struct MergeInputs {
     /// The common ancestor of both sides.
@@ -52,12 +52,57 @@ impl MergeInput {
         ensures err { IsOkUnless result Memory }
     {
         let comments = comments_of(alloc, text)?;
-        let lockfile = with_cargo_spelling(alloc, lockfile)?;
         Ok(MergeInput { lockfile, comments })
     }
 }
 
 impl MergeInputs {
+    /// The inputs of a merge. A source may be spelt otherwise in each lockfile, where Cargo takes it
+    /// for the same (see `is_canonically_same`), and a merge compares sources by their texts, so each
+    /// is given one spelling. In a lockfile that is the first one, among the sources of its packages
+    /// and then of its unused patches. Among the three it is that which one side alone changed, or
+    /// which both sides have. Of two changes it is the lesser text, and for crates.io as Cargo writes
+    /// it. A commit stays as it is.
+    ///
+    /// # Errors
+    ///
+    /// The one error is `Memory`.
+    ///
+    /// ```
+    /// let inputs = MergeInputs::new(rt.alloc(), base, ours, theirs)?;
+    /// ```
+    pub fn new(
+        alloc: Global,
+        base: MergeInput,
+        ours: MergeInput,
+        theirs: MergeInput,
+    ) -> Result<MergeInputs>
+        ensures ok { IfOk result (AreInputsOf base ours theirs) }
+        ensures err { IsOkUnless result Memory }
+    {
+        let mut inputs = MergeInputs { base, ours, theirs };
+        inputs.respell(alloc)?;
+        Ok(inputs)
+    }
+
+    // Writes each source in its spelling of the merge.
+    fn respell(&mut self, alloc: Global) -> Result<()>
+        ensures ok { OnOk result
+            (AreInputsOf self.old.base self.old.ours self.old.theirs self.new) }
+        ensures err { IsOkUnless result Memory }
+    {
+        let spellings = MergedSpellings::of(
+            alloc,
+            &self.base.lockfile,
+            &self.ours.lockfile,
+            &self.theirs.lockfile,
+        )?;
+        spellings.respell_lockfile(alloc, &mut self.base.lockfile)?;
+        spellings.respell_lockfile(alloc, &mut self.ours.lockfile)?;
+        spellings.respell_lockfile(alloc, &mut self.theirs.lockfile)?;
+        Ok(())
+    }
+
     /// The comments of the merge.
     ///
     /// ```

@@ -6,6 +6,7 @@ mod assemble;
 pub mod comments;
 pub mod conflict;
 pub mod document;
+mod favoured;
 mod format;
 pub mod inputs;
 pub mod laws;
@@ -19,7 +20,9 @@ pub mod outcome;
 mod patches;
 mod referring;
 pub mod refused;
+mod respelling;
 pub mod spelling;
+mod spellings;
 mod words;
 
 pub use crate::comments::merge_comments;

@@ -98,7 +98,8 @@ struct Rest {
 /// `merge_comments`.
 ///
 /// The checksums of packages in V1 are those in the packages, so call `with_cargo_checksums` for
-/// each lockfile first. Sources are compared by their texts, so call `with_cargo_spelling` too.
+/// each lockfile first. Sources are compared by their texts: `MergeInputs::new` gives each source that
+/// Cargo takes for one, but that is spelt otherwise, one spelling in the three.
 ///
 /// `MergeError::Root` and `MergeError::Refused` say which of the lockfiles cannot be merged, and
 /// why. Where several cannot be, a root is reported first, and then the base before ours, and ours

@@ -77,7 +77,7 @@ fn merge_sides<'a>(alloc: Global, sides: &Sides<'a>) -> error::Result<Outcome<'a
 }
 
 // The same of packages at their places.
-fn merge_placed<'a, 'd>(
+pub(crate) fn merge_placed<'a, 'd>(
     alloc: Global,
     base: &'d [Placed<'a, 'd>],
     ours: &'d [Placed<'a, 'd>],

@@ -100,6 +100,18 @@ fn respell(alloc: Global, source: &mut Option<SourceId>) -> Result<()>
     Ok(())
 }
 
+/// The source as Cargo writes it, if Cargo takes it for crates.io, and else the source itself. The
+/// one error is `Memory`.
+pub(crate) fn as_written(alloc: Global, source: &SourceId) -> Result<SourceId>
+    ensures ok { IfOk result (λ written. written ≡ source_as_written source.now) }
+    ensures err { IsOkUnless result Memory }
+{
+    match other_spelling(alloc, source)? {
+        Some(written) => Ok(written),
+        None => Ok(source.clone()?),
+    }
+}
+
 // The source as Cargo writes it, if that is crates.io, spelt otherwise.
 fn other_spelling(alloc: Global, source: &SourceId) -> Result<Option<SourceId>>
     ensures ok { IfOk result (λ found. unwrap_or found source.now ≡ source_as_written source.now) }

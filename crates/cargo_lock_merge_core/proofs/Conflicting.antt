@@ -110,7 +110,7 @@ module _ (s : Triple ℕ) (plan : Plan) (h : HasPlan s plan) where
   -- and a place that is reached has such an entry
   pub reached-entry : (p : ℕ) → IsReachedInMerge s p → (k : ℕ) × (e : Entry) × (slice_get plan.entries.items k ≡ Some e) × (e.row.place ≡ p) × IsMarked plan.reached.items k
   reached-entry p reached =
-      let m = map-in (λ (e : Entry). e.row.place) plan.entries.items p ((h.plan.entries.holds p).1 (reached-there s h.ours_closed h.theirs_closed p reached)) in
+      let m = map-in (λ (e : Entry). e.row.place) plan.entries.items p ((h.plan.entries.holds p).1 (reached-there s h.closed p reached)) in
       let e : Entry = m.0 in
       let k : ℕ = m.1.0 in
       let low : k < length plan.entries.items = m.1.1 in
@@ -272,7 +272,7 @@ module _ (s : Triple ℕ) (plan : Plan) (h : HasPlan s plan) where
           let reached = subst (IsReachedInMerge s) here (marked-entry k e at marked) in
           let among = entry-among k e at in
           let row = row-at e p here (row-of s plan h e among) in
-          holds-to kind e p e.chosen reached row (one-there e p row (reached-there s h.ours_closed h.theirs_closed p reached)) (entry-at s plan h e among).settled conflict
+          holds-to kind e p e.chosen reached row (one-there e p row (reached-there s h.closed p reached)) (entry-at s plan h e among).settled conflict
 
       from : IsMatter s (conflict_of kind p) → IsConflictPlace plan (lockfiles_of s) kind p
       from c =
@@ -334,4 +334,4 @@ module _ (s : Triple ℕ) (plan : Plan) (h : HasPlan s plan) where
       let at = slice_get-get_or plan.entries.items i e low ∙ ap Some (sym is) in
       let reached = marked-entry i e at marked in
       let row = row-at e e.row.place refl (row-of s plan h e among) in
-      conflict-by e e.row.place e.chosen reached row (one-there e e.row.place row (reached-there s h.ours_closed h.theirs_closed e.row.place reached)) (entry-at s plan h e among).settled u
+      conflict-by e e.row.place e.chosen reached row (one-there e e.row.place row (reached-there s h.closed e.row.place reached)) (entry-at s plan h e among).settled u

@@ -9,7 +9,7 @@ use Rattle.lists.specs.Chains.{IsChain}
 use Rattle.cargo_lock_merge_core.specs.Merge.{IsReachedInMerge, IsRootOfMerge, LeadsToInMerge, Triple}
 use Rattle.cargo_lock_merge_core.specs.Numbered.{place_numbers}
 use Rattle.cargo_lock_merge_core.specs.Placed.{HasAt, HasOneAtEach, IsAt, PlacedData}
-use Rattle.cargo_lock_merge_core.specs.Plans.{IsClosed}
+use Rattle.cargo_lock_merge_core.specs.Plans.{AreClosed, IsClosed}
 use Rattle.cargo_lock_merge_core.specs.Rule3.{IsKept, IsMergedValue}
 use Rattle.cargo_lock_merge_core.proofs.Ascending.{far-below}
 use Rattle.cargo_lock_merge_core.proofs.Finding.{place-among}
@@ -49,7 +49,7 @@ replaced-by b o t c d h =
       | inr e ↦ let k = mapped-some f (if_same c t) (Some d) e in (k.0, inr (if-same-is c t k.0 k.1), k.2)
     ]
 
-module _ (s : Triple ℕ) (ours : IsClosed s.ours) (theirs : IsClosed s.theirs) where
+module _ (s : Triple ℕ) (closed : AreClosed s.ours s.theirs) where
   -- the place is one of a side
   IsThere : ℕ → Type 0
   IsThere p = Contains (place_numbers s.ours) p ⊎ Contains (place_numbers s.theirs) p
@@ -57,31 +57,42 @@ module _ (s : Triple ℕ) (ours : IsClosed s.ours) (theirs : IsClosed s.theirs) 
   place-of-at : (xs : List (PlacedData ℕ)) (p : ℕ) (x : PlacedData ℕ) → HasAt xs p x → Contains (place_numbers xs) p
   place-of-at xs p x h = subst (λ n. Contains (place_numbers xs) n) h.1 (place-among xs x h.0)
 
-  depends-there : (xs : List (PlacedData ℕ)) (p d : ℕ) (o : Option (PlacedData ℕ)) → IsClosed xs → IsAt xs p o → DependsOn o d → Contains (place_numbers xs) d
-  depends-there xs p d None closed at h = absurd h
-  depends-there xs p d (Some x) closed at h = let y = closed x d at.0 (inl h) in place-of-at xs d y.0 y.1
+  -- what a package of a side refers to
+  refers-there : (x : PlacedData ℕ) (d : ℕ) → Contains s.ours x ⊎ Contains s.theirs x → Contains x.dependencies d ⊎ (x.replacement ≡ Some d) → IsThere d
+  unfolding IsThere
+  refers-there x d among refers = let y = closed x d among refers in elim y.1 [
+    | inl at ↦ inl (place-of-at s.ours d y.0 at)
+    | inr at ↦ inr (place-of-at s.theirs d y.0 at)
+  ]
 
-  replaced-there : (xs : List (PlacedData ℕ)) (p d : ℕ) (o : Option (PlacedData ℕ)) (y : PlacedData ℕ) → IsClosed xs → IsAt xs p o → o ≡ Some y → y.replacement ≡ Some d
-      → Contains (place_numbers xs) d
-  replaced-there xs p d o y closed at e r =
-      let at' : HasAt xs p y = subst (IsAt xs p) e at in
-      let z = closed y d at'.0 (inr r) in place-of-at xs d z.0 z.1
+  depends-ours : (p d : ℕ) (o : Option (PlacedData ℕ)) → IsAt s.ours p o → DependsOn o d → IsThere d
+  depends-ours p d None at h = absurd h
+  depends-ours p d (Some x) at h = refers-there x d (inl at.0) (inl h)
+
+  depends-theirs : (p d : ℕ) (t : Option (PlacedData ℕ)) → IsAt s.theirs p t → DependsOn t d → IsThere d
+  depends-theirs p d None at h = absurd h
+  depends-theirs p d (Some x) at h = refers-there x d (inr at.0) (inl h)
+
+  replaced-ours : (p d : ℕ) (o : Option (PlacedData ℕ)) (y : PlacedData ℕ) → IsAt s.ours p o → o ≡ Some y → y.replacement ≡ Some d → IsThere d
+  replaced-ours p d o y at e r = let at' : HasAt s.ours p y = subst (IsAt s.ours p) e at in refers-there y d (inl at'.0) (inr r)
+
+  replaced-theirs : (p d : ℕ) (t : Option (PlacedData ℕ)) (y : PlacedData ℕ) → IsAt s.theirs p t → t ≡ Some y → y.replacement ≡ Some d → IsThere d
+  replaced-theirs p d t y at e r = let at' : HasAt s.theirs p y = subst (IsAt s.theirs p) e at in refers-there y d (inr at'.0) (inr r)
 
   leads-there : (p d : ℕ) → LeadsToInMerge s p d → IsThere d
-  unfolding IsThere
   leads-there p d (x, y, z, at, inl (inl h)) = elim (chosen-depends x y z h.0 d h.2) [
-    | inl k ↦ inl (depends-there s.ours p d y ours at.ours k)
-    | inr k ↦ inr (depends-there s.theirs p d z theirs at.theirs k)
+    | inl k ↦ depends-ours p d y at.ours k
+    | inr k ↦ depends-theirs p d z at.theirs k
   ]
   leads-there p d (x, y, z, at, inl (inr h)) = elim h.1 [
-    | inl k ↦ inl (depends-there s.ours p d y ours at.ours k)
-    | inr k ↦ inr (depends-there s.theirs p d z theirs at.theirs k)
+    | inl k ↦ depends-ours p d y at.ours k
+    | inr k ↦ depends-theirs p d z at.theirs k
   ]
   leads-there p d (x, y, z, at, inr h) =
       let k = replaced-by x y z h.0 d h.2 in
       elim k.1 [
-        | inl e ↦ inl (replaced-there s.ours p d y k.0 ours at.ours e k.2)
-        | inr e ↦ inr (replaced-there s.theirs p d z k.0 theirs at.theirs e k.2)
+        | inl e ↦ replaced-ours p d y k.0 at.ours e k.2
+        | inr e ↦ replaced-theirs p d z k.0 at.theirs e k.2
       ]
 
   root-there : (p : ℕ) → IsRootOfMerge s p → IsThere p
@@ -98,6 +109,11 @@ module _ (s : Triple ℕ) (ours : IsClosed s.ours) (theirs : IsClosed s.theirs) 
   pub reached-there : (p : ℕ) → IsReachedInMerge s p → Contains (place_numbers s.ours) p ⊎ Contains (place_numbers s.theirs) p
   unfolding IsThere
   reached-there p h = chain-there h.0 h.1 p (root-there h.0 h.2) h.3
+
+-- lists that are closed each are closed together
+pub closed-both : (ours theirs : List (PlacedData ℕ)) → IsClosed ours → IsClosed theirs → AreClosed ours theirs
+closed-both ours theirs o t x d (inl among) refers = let y = o x d among refers in (y.0, inl y.1)
+closed-both ours theirs o t x d (inr among) refers = let y = t x d among refers in (y.0, inr y.1)
 
 -- ascending places are of one package each
 pub one-each : (xs : List (PlacedData ℕ)) → IsStrictlyIncreasing (place_numbers xs) → HasOneAtEach xs

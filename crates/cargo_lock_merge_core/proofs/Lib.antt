@@ -47,3 +47,6 @@ pub mod Backwards
 pub mod ByPlaces
 pub mod Listings
 pub mod Origins
+pub mod Favouring
+pub mod Within
+pub mod InOrder

@@ -11,7 +11,7 @@ use Rattle.cargo_lock_parts.specs.Identity.{PackageData}
 use Rattle.cargo_lock_parts.specs.SourceKey.{key_of}
 use Rattle.cargo_lock_parts.specs.PartialIdentity.{PartialIdentity, is_same_partial_identity-Decides, partial_identity_cmp, partial_key}
 use Rattle.cargo_lock_graph.specs.Targets.{IsLastBelow}
-use Rattle.cargo_lock_graph.proofs.BestCandidates.{last-new, last-same}
+use Rattle.cargo_lock_graph.proofs.Targets.{last-new, last-same}
 use Rattle.cargo_lock_merge_core.specs.declared.numbers.Spot.{Spot}
 use Rattle.cargo_lock_merge_core.specs.declared.place.Located.{Located}
 use Rattle.cargo_lock_edges.specs.Nearest.{key_without_commit}

@@ -13,11 +13,13 @@ use Rattle.cargo_lock_parts.specs.SourceKey.{Key, key_of, source_cmp}
 use Rattle.cargo_lock_merge_core.specs.CommitMaps.{AreCommitsOf, AreSourcesOf, HasPutCommit, HasPutSource, IsBareGit, IsOnce, IsPutSource, commit_if}
 use Rattle.cargo_lock_edges.specs.Nearest.{key_without_commit}
 use Rattle.cargo_lock_merge_core.specs.Commits.{HasCommit, HasOneCommitEach, HasSource, IsCommitIn, commit_in, git_in}
-use Rattle.cargo_lock_merge_core.specs.Refusals.{IsApartOrMemory, IsTwoOrMemory}
+use Rattle.cargo_lock_merge_core.specs.Refusals.{AreAtTwoCommits, IsApartOrMemory, IsTwoOrMemory}
 use Rattle.cargo_lock_merge_core.specs.declared.refusal.Fault.{Fault}
 use Rattle.cargo_lock_merge_core.specs.declared.refusal.Fault.TheVariants.{Memory, Refused}
+use Rattle.cargo_lock_merge_core.specs.declared.refusal.Refusal.{Refusal}
 use Rattle.cargo_lock_merge_core.specs.declared.refusal.Refusal.TheVariants.{Lost, OnePlace, TwoCommits, Unreplaced}
 use Rattle.cargo_lock_merge_core.proofs.Merging.{bare-key, commit-put}
+use Rattle.cargo_lock_merge_core.proofs.Putting.{git-key}
 
 -- the source of a package of a git source
 git-of : (o : Option Source) (g : Key) → git_in o ≡ Some g → (t : Source) × (o ≡ Some t) × (is_git t.kind ≡ true) × (key_without_commit t ≡ g)
@@ -107,3 +109,18 @@ two-of packages i p map (Refused (TwoCommits a b)) low is are (source, git, got,
   where
     taken-in : (xs : List PackageData) (n : ℕ) (x : PackageData) → Contains (take n xs) x → Contains xs x
     taken-in xs n x h = subst (λ (ys : List PackageData). Contains ys x) (take-append-drop n xs) (Contains-append_left (take n xs) (drop n xs) x h)
+
+-- then the list is not at one commit each
+pub two-apart : (xs : List PackageData) (a b : Source) → AreAtTwoCommits xs a b → ¬ HasOneCommitEach xs
+two-apart xs a b h one =
+    let (p, in-a, is-a) = h.one in
+    let (q, in-b, is-b) = h.other in
+    let git : is_git a.kind ≡ true = ap (λ (k : Key). is_git k.kind) h.same ∙ h.git in
+    let g = key_without_commit b in
+    h.apart (one g a.precise b.precise (p, in-a, (git-key p.source a is-a git ∙ ap Some h.same, ap commit_in is-a)) (q, in-b, (git-key q.source b is-b h.git, ap commit_in is-b)))
+
+pub not-one : (xs : List PackageData) (refusal : Refusal) → IsTwoOrMemory xs (Refused refusal) → ¬ HasOneCommitEach xs
+not-one xs (OnePlace a b) h = absurd h
+not-one xs (Unreplaced a) h = absurd h
+not-one xs (Lost text) h = absurd h
+not-one xs (TwoCommits a b) h = two-apart xs a.now b.now h

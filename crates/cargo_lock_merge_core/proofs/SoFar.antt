@@ -128,7 +128,7 @@ module _ (s : Triple ℕ) (plan : Plan) (h : HasPlan s plan) where
   marked-reached : (p : ℕ) → IsMarkedPlace plan p ↔ IsReachedInMerge s p
   marked-reached p = (
     λ k. (h.plan.marks k.0 p k.1).0 k.2,
-    λ r. let c = (h.plan.entries.holds p).1 (reached-there s h.ours_closed h.theirs_closed p r) in
+    λ r. let c = (h.plan.entries.holds p).1 (reached-there s h.closed p r) in
         let at : slice_get (entry_places plan.entries.items) c.0 ≡ Some p = slice_get-get_or (entry_places plan.entries.items) c.0 p c.1 ∙ ap Some c.2 in
         (c.0, at, (h.plan.marks c.0 p at).1 r),
   )

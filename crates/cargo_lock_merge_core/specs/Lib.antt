@@ -25,6 +25,7 @@ pub mod Refusals
 pub mod Triples
 pub mod Numbers
 pub mod Disputes
+pub mod Favoured
 pub mod Conflicts
 pub mod ByPlaces
 pub mod Listings

@@ -10,7 +10,7 @@ use Rattle.cargo_lock_merge_core.specs.Choices.{IsChecksum, IsReplacement}
 use Rattle.cargo_lock_merge_core.specs.Merge.{Triple}
 use Rattle.cargo_lock_merge_core.specs.Numbered.{data_if, placed_data}
 use Rattle.cargo_lock_merge_core.specs.Placed.{PlacedData}
-use Rattle.cargo_lock_merge_core.specs.Plans.{IsClosed, IsNumbered, IsPlan}
+use Rattle.cargo_lock_merge_core.specs.Plans.{AreClosed, IsNumbered, IsPlan}
 
 -- the merged package without what only the program has
 abbrev pub merged_data : Merged → PlacedData ℕ
@@ -21,14 +21,13 @@ merged_data m = record {
   replacement = m.replacement;
 }
 
--- the plan is that of a merge of three lockfiles by places, of which those of the sides have a
--- package for each dependency and replacement
+-- the plan is that of a merge of three lockfiles by places, of which one of the sides has a package
+-- for each dependency and replacement of a side
 pub record HasPlan (s : Triple ℕ) (p : Plan) : Type 0 where
   pub base : IsNumbered s.base
   pub ours : IsNumbered s.ours
   pub theirs : IsNumbered s.theirs
-  pub ours_closed : IsClosed s.ours
-  pub theirs_closed : IsClosed s.theirs
+  pub closed : AreClosed s.ours s.theirs
   pub plan : IsPlan s p
 
 -- the sides are in conflict about the package, its checksum or its replacement

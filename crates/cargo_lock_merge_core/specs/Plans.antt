@@ -34,6 +34,13 @@ abbrev pub IsClosed : {P : Type 0} → List (PlacedData P) → Type 0
 IsClosed {P = P} xs = (x : PlacedData P) (d : P) → Contains xs x
     → (Contains x.dependencies d ⊎ (x.replacement ≡ Some d)) → (y : PlacedData P) × HasAt xs d y
 
+-- what a package of a side depends on, and its replacement, is in one of the sides
+abbrev pub AreClosed : {P : Type 0} → List (PlacedData P) → List (PlacedData P) → Type 0
+AreClosed {P = P} ours theirs = (x : PlacedData P) (d : P)
+    → (Contains ours x ⊎ Contains theirs x)
+    → (Contains x.dependencies d ⊎ (x.replacement ≡ Some d))
+    → (y : PlacedData P) × (HasAt ours d y ⊎ HasAt theirs d y)
+
 -- the places of entries
 abbrev pub entry_places : List Entry → List ℕ
 entry_places = map (λ e. e.row.place)

@@ -2,10 +2,12 @@
 #![tactic(auto)]
 
 mod choices;
+pub mod closed;
 pub mod commits;
 pub mod conflicts;
 pub mod disputes;
 pub mod entry;
+pub mod favour;
 pub mod laws;
 mod linked;
 mod member_counts;
@@ -19,7 +21,7 @@ pub mod plan;
 mod reach;
 mod references;
 pub mod refusal;
-mod repositories;
+pub mod repositories;
 pub mod rows;
 pub mod rule3;
 mod sets;

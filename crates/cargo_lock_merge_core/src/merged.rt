@@ -5,7 +5,7 @@ ghost use Rattle.std.specs.Prelude.{option_map};
 ghost use Rattle.cargo_lock_parts.specs.declared.error.Error.TheVariants.{Memory};
 ghost use Rattle.cargo_lock_merge_core.specs.Numbered.{all_data};
 ghost use Rattle.cargo_lock_merge_core.specs.Places.{Place};
-ghost use Rattle.cargo_lock_merge_core.specs.Plans.{IsClosed, IsNumbered, numbered_triple};
+ghost use Rattle.cargo_lock_merge_core.specs.Plans.{AreClosed, IsNumbered, numbered_triple};
 ghost use Rattle.cargo_lock_merge_core.specs.Renaming.{IsOneToOne, rename_all, rename_triple};
 ghost use Rattle.cargo_lock_parts.specs.Checksum.{digest_of};
 ghost use Rattle.cargo_lock_merge_core.specs.Commits.{Lockfiles};
@@ -50,8 +50,8 @@ struct Values<'a> {
     replacement: Option<usize>,
 }
 
-/// The merge of the packages of three lockfiles, which are in the order of their places. In those of
-/// the sides, each dependency and each replacement has its package. `None` if the sides are in
+/// The merge of the packages of three lockfiles, which are in the order of their places. Each
+/// dependency and each replacement of a side has its package in one of the sides. `None` if the sides are in
 /// conflict about something that is reached. The one error is `Memory`.
 pub fn merge_numbered<'a, 'd>(
     alloc: Global,
@@ -62,8 +62,7 @@ pub fn merge_numbered<'a, 'd>(
     requires base { IsNumbered (all_data base.now) }
     requires ours { IsNumbered (all_data ours.now) }
     requires theirs { IsNumbered (all_data theirs.now) }
-    requires ours_closed { IsClosed (all_data ours.now) }
-    requires theirs_closed { IsClosed (all_data theirs.now) }
+    requires closed { AreClosed (all_data ours.now) (all_data theirs.now) }
     ensures ok { IfOk result (λ merged. MatchOption merged
         ((m : List (PlacedData ℕ)) → ¬ IsMerge (numbered_triple base.now ours.now theirs.now) m)
         (λ all. IsMerge (numbered_triple base.now ours.now theirs.now)

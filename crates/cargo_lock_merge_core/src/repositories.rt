@@ -1,15 +1,21 @@
 //! Whether each git source of a list is at one commit.
 
-ghost use Rattle.std.specs.Prelude.{◌≡◌, ◌≢◌, IfErr, MatchOption, None, OnOk, Some, true};
+ghost use Rattle.std.specs.Prelude.{◌≡◌, ◌≢◌, IfErr, IfOk, IsOkUnless, MatchOption, None, OnOk, Some, true};
+ghost use Rattle.std.specs.Bool.{Decides};
+ghost use Rattle.cargo_lock_parts.specs.declared.error.Error.TheVariants.{Memory};
 ghost use Rattle.cargo_lock_parts.specs.Source.{is_git};
 ghost use Rattle.cargo_lock_merge_core.specs.CommitMaps.{HasPutCommit, HasPutSource, IsOnce};
 ghost use Rattle.cargo_lock_merge_core.specs.Commits.{HasOneCommitEach, git_in};
+ghost use Rattle.cargo_lock_merge_core.specs.Numbered.{all_data};
+ghost use Rattle.cargo_lock_merge_core.specs.Placed.{contents_of};
 ghost use Rattle.cargo_lock_merge_core.specs.declared.refusal.Fault.TheVariants.{Refused};
 ghost use Rattle.cargo_lock_merge_core.specs.declared.refusal.Refusal.TheVariants.{TwoCommits};
 ghost use Rattle.cargo_lock_merge_core.specs.Refusals.{IsApartOrMemory, IsTwoOrMemory};
 
 use crate::commits::is_commit;
+use crate::placed::Placed;
 use crate::refusal::{Fault, Refusal, Result};
+use cargo_lock_parts::error::{self, Error};
 use cargo_lock_parts::package::{Package, SourceId};
 use std::alloc::Global;
 use std::collections::BTreeMap;
@@ -24,6 +30,23 @@ pub(crate) fn check_commits<'a>(alloc: Global, packages: &'a [Package]) -> Resul
         put_once(&mut commits, package)?;
     }
     Ok(())
+}
+
+/// Whether each git source of a list is at one commit. The one error is `Memory`.
+pub fn has_one_commit_each(alloc: Global, list: &[Placed]) -> error::Result<bool>
+    ensures ok { IfOk result
+        (λ one. Decides one (HasOneCommitEach (contents_of (all_data list.now)))) }
+    ensures err { IsOkUnless result Memory }
+{
+    let mut commits = BTreeMap::new(alloc);
+    for package in list {
+        match put_once(&mut commits, package.package) {
+            Ok(()) => {}
+            Err(Fault::Memory) => return Err(Error::Memory),
+            Err(Fault::Refused(_)) => return Ok(false),
+        }
+    }
+    Ok(true)
 }
 
 // Adds the commit of the package, if it is of a git source. Refuses a commit other than that of a

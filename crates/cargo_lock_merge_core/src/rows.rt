@@ -73,7 +73,7 @@ pub(crate) fn places(alloc: Global, list: &[Placed]) -> Result<Vec<usize>, Alloc
 }
 
 // The package at the place, if there is one. The search goes on from where it stopped before.
-fn package_of<'a, 'd>(
+pub(crate) fn package_of<'a, 'd>(
     list: &[Placed<'a, 'd>],
     at: &mut usize,
     place: usize,

@@ -72,7 +72,7 @@ pub fn all_places(alloc: Global, ours: &[usize], theirs: &[usize]) -> Result<Vec
 }
 
 // Whether the place is in the set. The search goes on from where it stopped before.
-fn has_place(list: &[usize], at: &mut usize, place: usize) -> bool
+pub(crate) fn has_place(list: &[usize], at: &mut usize, place: usize) -> bool
     requires ascending { IsStrictlyIncreasing list.now }
     requires below { AreBelowPlace list.now at.old place }
     ensures found { IsTrue result ↔ Contains list.now place }

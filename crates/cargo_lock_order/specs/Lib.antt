@@ -1,3 +1,4 @@
 pub mod Canonical
+pub mod Form
 pub mod Order
 pub mod Precedence

@@ -27,6 +27,10 @@ fn canonical_at_github(alloc: Global, url: &Url) -> Result<Vec<u8>, AllocError>
     ensures { IfOk result (λ text. text.items
         ≡ text_with_path (with_https url.now) (path_at_github url.now (with_https url.now))) }
 {
+    if url.scheme() == "https" {
+        // It is read again as itself.
+        return text_at_github(alloc, url, url);
+    }
     let text = https_text(alloc, url)?;
     match Url::parse(alloc, text.as_str()) {
         Ok(read) => text_at_github(alloc, url, &read),

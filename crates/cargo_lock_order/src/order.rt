@@ -166,7 +166,7 @@ fn dependency_source_order(one: &SourceId, other: &SourceId) -> Ordering
 }
 
 // The order by kind and reference.
-fn kind_order(one: &SourceKind, other: &SourceKind) -> Ordering
+pub(crate) fn kind_order(one: &SourceKind, other: &SourceKind) -> Ordering
     ensures { result ≡ kind_order (kind_of one.now) (kind_of other.now) }
 {
     let text = git_reference_text(one);

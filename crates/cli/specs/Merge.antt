@@ -5,7 +5,7 @@ use Rattle.clap.specs.Matches.{first_value}
 use Rattle.clap.specs.declared.parser.matches.Found.{Found}
 use Rattle.cargo_lock_encoding.specs.Lockfiles.{LockfileData}
 use Rattle.cargo_lock_merge.specs.Document.{conflicts_json, merged_json, refused_json}
-use Rattle.cargo_lock_merge.specs.Inputs.{AreInputComments, IsInputOf, lockfiles_in}
+use Rattle.cargo_lock_merge.specs.Inputs.{AreInputComments, AreInputsOf, IsInputOf, lockfiles_in}
 use Rattle.cargo_lock_merge.specs.MergedLockfiles.{IsMergeError, MergesTo}
 use Rattle.cargo_lock_merge.specs.declared.inputs.MergeInput.{MergeInput}
 use Rattle.cargo_lock_merge.specs.declared.inputs.MergeInputs.{MergeInputs}
@@ -69,11 +69,15 @@ abbrev pub IsBase : MergeInput → Type 0
 IsBase input = IsSide input
     ⊎ ((l : LockfileData) × IsMeantWithCargoChecksums l × IsInputOf l [] input)
 
--- the three are those of texts
+-- these are the inputs of texts, in which each source has one spelling
 pub record AreInputs (inputs : MergeInputs) : Type 0 where
-  pub base : IsBase inputs.base
-  pub ours : IsSide inputs.ours
-  pub theirs : IsSide inputs.theirs
+  pub read_base : MergeInput
+  pub read_ours : MergeInput
+  pub read_theirs : MergeInput
+  pub base : IsBase read_base
+  pub ours : IsSide read_ours
+  pub theirs : IsSide read_theirs
+  pub spelt : AreInputsOf read_base read_ours read_theirs inputs
 
 -- their merge with these comments is printed; or they have none, and the document says why, and the
 -- status is that of a fault

@@ -126,7 +126,8 @@ fn asked(alloc: Global, options: &ArgMatches<'_>) -> Result<Telling, Fault>
     Err(Fault::from(command.error(WordsKind::MissingRequiredArgument, NO_FILE)?))
 }
 
-/// The three lockfiles that the arguments name. Fails if one is not read, and if two of them are
+/// The three lockfiles that the arguments name, in which each source has one spelling. Fails if one
+/// is not read, and if two of them are
 /// standard input.
 fn inputs<R: Files + Input + AllocGlobal>(
     rt: &R,
@@ -137,11 +138,11 @@ fn inputs<R: Files + Input + AllocGlobal>(
     if are_two_standard(options) {
         return Err(Fault::OneInput);
     }
-    Ok(MergeInputs {
-        base: base(rt, options)?,
-        ours: side(rt, options, "ours")?,
-        theirs: side(rt, options, "theirs")?,
-    })
+    let base = base(rt, options)?;
+    let ours = side(rt, options, "ours")?;
+    let theirs = side(rt, options, "theirs")?;
+    let inputs = MergeInputs::new(rt.alloc(), base, ours, theirs)?;
+    Ok(inputs)
 }
 
 /// The base of the merge. One that is not there has no packages and no comments.

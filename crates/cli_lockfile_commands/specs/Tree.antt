@@ -1,6 +1,6 @@
 -- What `tree` prints.
 use Rattle.std.specs.Prelude.{◌≡◌, ◌≢◌, ◌<◌, ℕ, Bool, if◌then◌else◌, List, [], ◌∷◌, ◌++◌, Option}
-use Rattle.std.specs.Prelude.{None, Some, codes, option_map, slice_get, unwrap_or}
+use Rattle.std.specs.Prelude.{Some, codes, option_map, slice_get, unwrap_or}
 use Rattle.std.specs.Io.KnownBytes.{Appends}
 use Rattle.std.specs.List.{AllZip, flat_map}
 use Rattle.clap.specs.Matches.{matched_of, raw_values}
@@ -44,11 +44,6 @@ AreDrawn exact direction graph starts text = (texts : List (List ℕ))
 -- the specifications of packages
 abbrev pub given_specs : Found → List (List ℕ)
 given_specs found = unwrap_or (option_map raw_values (matched_of found (codes "spec"))) []
-
--- the package at the first of some places, if there is one
-abbrev pub first_at : List PackageData → List ℕ → Option PackageData
-first_at packages [] = None
-first_at packages (place ∷ places) = slice_get packages place
 
 -- the node of the first package that a specification fits: that of the last package with its
 -- identity

@@ -1,22 +1,19 @@
 //! The command `tree`: the trees of the roots of a lockfile, or of the packages that are asked for.
-ghost use Rattle.std.specs.Prelude.{◌≡◌, ◌<◌, List, ℕ, All, IfOk, OnOk, Some, length, map, option_map};
+ghost use Rattle.std.specs.Prelude.{◌≡◌, ◌<◌, List, ℕ, All, IfOk, OnOk, length, map};
 ghost use Rattle.std.specs.Io.KnownBytes.{Appends};
 ghost use Rattle.std.specs.List.{AllZip};
 ghost use Rattle.clap.specs.Matches.{found_of};
 ghost use Rattle.cargo_lock_graph.specs.Edges.{GraphData};
 ghost use Rattle.cargo_lock_graph.specs.Rendering.{Draws};
-ghost use Rattle.cargo_lock_graph.specs.Targets.{IsLastWith};
-ghost use Rattle.cargo_lock_parts.specs.Identity.{identity_of};
 ghost use Rattle.cli_lockfile_commands.specs.Tree.{AreDrawn, AreStarts, IsDrawn, IsStartOf, PrintsTrees};
-ghost use Rattle.cli_lockfile_commands.specs.Tree.{first_at};
 ghost use Rattle.cli_input.specs.Load.{IsGraphOf};
 ghost use Rattle.cli_lockfile_commands.specs.Tree.{PrintsTreesOf, after_empty_lines, direction_of};
 
 use cargo_lock::dependency::graph::{EdgeDirection, Graph, NodeIndex};
 use cargo_lock::dependency::tree::{Symbols, roots_of};
 use cargo_lock::{Lockfile, Package};
+use cargo_lock_edges::Groups;
 use cargo_lock_graph::drawing::{Look, render_onto};
-use cargo_lock_graph::targets::Candidates;
 use cargo_lock_query::fitting;
 use clap::{ArgMatches, Command};
 use cli_input::load::{graph_of, lockfile};
@@ -118,54 +115,28 @@ fn starts_of(alloc: Global, graph: &Graph, specs: &[&str]) -> Result<Vec<NodeInd
     ensures named { IfOk result (λ starts.
         AllZip (IsStartOf graph.now.packages) (map (λ spec. spec.now) specs.now) starts.items) }
 {
-    let candidates = Candidates::of(alloc, graph.packages())?;
+    let groups = Groups::of(alloc, graph.packages())?;
     let mut starts = Vec::new(alloc);
     for spec in specs {
-        starts.push(start_of(alloc, &candidates, graph.packages(), spec)?)?;
+        starts.push(start_of(alloc, &groups, graph.packages(), spec)?)?;
     }
     Ok(starts)
 }
 
 /// The node of the first package that matches a specification: that of the last package with its
 /// identity.
-fn start_of<'a>(
+fn start_of(
     alloc: Global,
-    candidates: &Candidates<'a>,
-    packages: &'a [Package],
+    groups: &Groups<'_>,
+    packages: &[Package],
     spec: &str,
 ) -> Result<NodeIndex, Fault>
-    requires { candidates.now ≡ packages.now }
+    requires { groups.now.packages ≡ packages.now }
     ensures { IfOk result (IsStartOf packages.now spec.now) }
 {
     let fitting = fitting(alloc, packages, spec)?;
-    match first_of(packages, &fitting) {
-        Some(package) => node_of(alloc, candidates, package, spec),
-        None => Err(Fault::of_spec(alloc, spec)),
-    }
-}
-
-/// The package of the first of some nodes.
-fn first_of<'p>(packages: &'p [Package], nodes: &[NodeIndex]) -> Option<&'p Package>
-    ensures { option_map (λ p. p.now) result ≡ first_at packages.now nodes.now }
-{
-    match nodes.first() {
-        Some(node) => packages.get(node.index()),
-        None => None,
-    }
-}
-
-/// The node of the last package with the identity of this one.
-fn node_of<'a>(
-    alloc: Global,
-    candidates: &Candidates<'a>,
-    package: &'a Package,
-    spec: &str,
-) -> Result<NodeIndex, Fault>
-    ensures { IfOk result (λ node.
-        IsLastWith candidates.now (identity_of «package».now) (Some node)) }
-{
-    match candidates.last_with(&package.name, &package.version, &package.source) {
-        Some(place) => Ok(NodeIndex::new(place)),
+    match fitting.first() {
+        Some(node) => Ok(groups.node_of(node.index())),
         None => Err(Fault::of_spec(alloc, spec)),
     }
 }

@@ -14,7 +14,7 @@ ghost use Rattle.cargo_lock_graph.specs.Targets.{IsUnresolved, links};
 
 use crate::error::Result;
 use crate::lockfile::Lockfile;
-use cargo_lock_graph::building::{graph_from, graph_of};
+use cargo_lock_edges::building::{graph_from, graph_of};
 use cargo_lock_graph::drawing::{Look, render_into, render_onto};
 pub use cargo_lock_graph::drawing::{Sink, Symbols, WriterSink, laws};
 use cargo_lock_graph::graph::{EdgeDirection, Graph, NodeIndex, Nodes};

@@ -2,7 +2,7 @@ use Rattle.std.proofs.Common.{◌∙◌, ap}
 use Rattle.cargo_lock_index.specs.Near.{is_only}
 use Rattle.cargo_lock_parts.specs.Identity.{PackageData}
 use Rattle.cargo_lock_parts.specs.PartialIdentity.{name_and_version}
-use Rattle.cargo_lock_graph.specs.Candidates.{versions_of}
+use Rattle.cargo_lock_graph.specs.Keys.{versions_of}
 use Rattle.cargo_lock_edges.proofs.groups.is_only.Goals as goal
 
 pub returns : goal.returns

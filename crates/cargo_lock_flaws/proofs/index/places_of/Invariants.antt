@@ -1,5 +1,5 @@
 use Rattle.std.proofs.Common.{◌≡◌, take}
-use Rattle.cargo_lock_graph.specs.Candidates.{keys_of}
+use Rattle.cargo_lock_graph.specs.Keys.{keys_of}
 use Rattle.cargo_lock_flaws.proofs.index.places_of.Given as goal
 
 abbrev pub invariant-loop-place : goal.invariant-loop-place

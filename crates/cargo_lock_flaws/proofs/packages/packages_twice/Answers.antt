@@ -1,7 +1,7 @@
 use Rattle.std.proofs.Common.{◌∙◌, ◌↔◌, ap, arith, length, refl, sym, take, IsSome}
 use Rattle.std.proofs.lemmas.Bool.{false≢true}
 use Rattle.cargo_lock_index.specs.Near.{last_place}
-use Rattle.cargo_lock_graph.specs.Candidates.{keys_of}
+use Rattle.cargo_lock_graph.specs.Keys.{keys_of}
 use Rattle.cargo_lock_flaws.specs.Packages.{IsTwice}
 use Rattle.lists.proofs.Places.{places-end, places-pass, places-put}
 use Rattle.cargo_lock_flaws.proofs.SeenBefore.{twice-known}

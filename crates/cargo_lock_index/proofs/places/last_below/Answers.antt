@@ -1,7 +1,7 @@
 use Rattle.std.proofs.Common.{rules, ◌∙◌, List, nat_lt}
 use Rattle.std.proofs.lemmas.List.Sorted.{IsPartitionPoint-from_clause}
 use Rattle.cargo_lock_index.specs.Near.{Placed}
-use Rattle.cargo_lock_index.proofs.Alike.{below-tail}
+use Rattle.cargo_lock_index.proofs.Neighbours.{below-tail}
 use Rattle.cargo_lock_index.proofs.places.last_below.Goals as goal
 
 pub returns : goal.returns

@@ -1,6 +1,6 @@
 use Rattle.std.proofs.Common.{◌∙◌, List, Some, ap, option_copied, option_map, sym}
 use Rattle.cargo_lock_index.specs.Near.{Placed}
-use Rattle.cargo_lock_index.proofs.Alike.{last-tail-of}
+use Rattle.cargo_lock_index.proofs.Neighbours.{last-tail-of}
 use Rattle.cargo_lock_index.proofs.places.last_of.Goals as goal
 
 pub returns : goal.returns

@@ -5,7 +5,7 @@ use Rattle.std.specs.declared.cmp.Ordering.{Ordering}
 use Rattle.std.proofs.lemmas.List.Sorted.{IsPartitionPoint-from_clause}
 use Rattle.std.proofs.lemmas.Slice.{between_to_end}
 use Rattle.cargo_lock_index.specs.Near.{Placed, entry_cmp}
-use Rattle.cargo_lock_index.proofs.Alike.{cut-tied, parted-less, parted-tied, same-own, same-rise}
+use Rattle.cargo_lock_index.proofs.Neighbours.{cut-tied, parted-less, parted-tied, same-own, same-rise}
 use Rattle.cargo_lock_index.proofs.places.same_among.Goals as goal
 
 pub returns : goal.returns

@@ -22,8 +22,7 @@ returns-clause-places c =
       base = c.requires.base;
       ours = c.requires.ours;
       theirs = c.requires.theirs;
-      ours_closed = c.requires.ours_closed;
-      theirs_closed = c.requires.theirs_closed;
+      closed = c.requires.closed;
       plan = c.in_ok-plan.ensures.ok;
     } in
     by-places (λ v. v.items) s c.in_ok-merged_packages.field-0 (c.in_ok-merged_packages.ensures.merge s plan)

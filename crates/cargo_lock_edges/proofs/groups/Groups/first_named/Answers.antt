@@ -2,7 +2,7 @@ use Rattle.std.proofs.Common.{◌∙◌, ap, subst, ℕ, List, MatchOption}
 use Rattle.cargo_lock_index.specs.Near.{first_place}
 use Rattle.cargo_lock_parts.specs.Identity.{Identity, PackageData}
 use Rattle.cargo_lock_parts.specs.PartialIdentity.{name_and_version}
-use Rattle.cargo_lock_graph.specs.Candidates.{versions_of}
+use Rattle.cargo_lock_graph.specs.Keys.{versions_of}
 use Rattle.cargo_lock_edges.specs.Groups.{Grouping, IsNamedAt}
 use Rattle.cargo_lock_edges.proofs.OnlyOnes.{first-named}
 use Rattle.cargo_lock_edges.proofs.groups.Groups.first_named.Goals as goal

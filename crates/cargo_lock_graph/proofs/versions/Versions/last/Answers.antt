@@ -2,8 +2,8 @@ use Rattle.std.proofs.Common.{◌∙◌, List, ap, subst}
 use Rattle.cargo_lock_index.specs.Near.{IsIndexOf}
 use Rattle.cargo_lock_parts.specs.Identity.{Identity, PackageData}
 use Rattle.cargo_lock_parts.specs.PartialIdentity.{name_and_version}
-use Rattle.cargo_lock_graph.specs.Candidates.{versions_of}
-use Rattle.cargo_lock_graph.proofs.BestAlike.{last-version}
+use Rattle.cargo_lock_graph.specs.Keys.{versions_of}
+use Rattle.cargo_lock_graph.proofs.KeyPlaces.{last-version}
 use Rattle.cargo_lock_graph.proofs.versions.Versions.last.Goals as goal
 
 pub returns : goal.returns

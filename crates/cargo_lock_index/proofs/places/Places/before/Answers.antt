@@ -1,7 +1,7 @@
 use Rattle.std.proofs.Common.{◌∙◌, ap}
 use Rattle.std.specs.List.{filter}
 use Rattle.cargo_lock_index.specs.Near.{Placed, has_key}
-use Rattle.cargo_lock_index.proofs.Alike.{found-earlier}
+use Rattle.cargo_lock_index.proofs.Neighbours.{found-earlier}
 use Rattle.cargo_lock_index.proofs.places.Places.before.Goals as goal
 
 pub returns : goal.returns

@@ -1,6 +1,0 @@
-use Rattle.std.proofs.Common.{◌≡◌, take}
-use Rattle.cargo_lock_graph.specs.Candidates.{keys_of}
-use Rattle.cargo_lock_graph.proofs.targets.places_of.Given as goal
-
-abbrev pub invariant-loop-place : goal.invariant-loop-place
-invariant-loop-place l = l.keys ≡ keys_of (take l.place l.packages)

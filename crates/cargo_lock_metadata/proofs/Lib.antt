@@ -1,0 +1,7 @@
+mod Walk
+mod Identities
+mod Indexing
+mod Belongings
+mod Stepping
+mod Rooting
+mod KindLaws

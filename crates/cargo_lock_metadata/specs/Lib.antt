@@ -1,0 +1,10 @@
+pub mod Fields
+pub mod Index
+pub mod Identity
+pub mod Line
+pub mod Counts
+pub mod Belonging
+pub mod Document
+pub mod Steps
+pub mod Roots
+pub mod Laws
