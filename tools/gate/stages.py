@@ -66,6 +66,7 @@ OF_PROGRAM = [
         ("pictures", "pictures as Graphviz reads them"),
         ("json", "documents of JSON against their schemas"),
         ("reports", "reports that other programs read"),
+        ("tour", "the commands of README and docs/TOUR.md"),
     )),
 ]
 

@@ -1,30 +1,23 @@
 -- Each finding is one line: each part of it is printable.
-use Rattle.std.proofs.Common.{Bool, if◌then◌else◌, true, false, codes, Option, Some, None, refl}
+use Rattle.std.proofs.Common.{Bool, if◌then◌else◌, is_none, true, false, codes, refl}
 use Rattle.std.specs.Str.{chars}
+use Rattle.cargo_lock_display.proofs.Printed.{dependency-prints, package-prints, version-prints}
 use Rattle.cargo_lock_flaws.specs.Names.{is_cargo_name}
 use Rattle.printing.specs.declared.form.Form.TheVariants.{Plain, Quoted}
 use Rattle.printing.proofs.LinesOf.{each-is-line}
-use Rattle.printing.proofs.Printable.{Prints, decimal-prints, empty, join, literal, shown-prints, words}
-use Rattle.cargo_lock_parts.specs.Identity.{Identity, PackageData, identity_of}
-use Rattle.cargo_lock_parts.specs.Source.{Source}
+use Rattle.printing.proofs.Printable.{Prints, decimal-prints, either_text, join, literal, shown-prints, words}
+use Rattle.cargo_lock_parts.specs.Identity.{Identity}
 use Rattle.cargo_lock_references.specs.Format.{number_of}
 use Rattle.cargo_lock_check.specs.Finding.{Alike, BadName, EachLockfileFindingIsOneLine}
 use Rattle.cargo_lock_check.specs.Finding.{LockfileFindingData, LookAlike, LossySource}
 use Rattle.cargo_lock_check.specs.Finding.{LostDependency, Misplaced, MisplacedDependency}
 use Rattle.cargo_lock_check.specs.Finding.{NoChecksum, NoChecksums, NoRoot, NotKept, Orphan}
 use Rattle.cargo_lock_check.specs.Finding.{OtherLine, RepeatedDependency, Respelt, StaleChecksum, Twice}
-use Rattle.cargo_lock_check.specs.Finding.{UserInfo, source_in_brackets, identity_shown}
-use Rattle.cargo_lock_check.specs.Finding.{lockfile_finding_line, package_shown}
+use Rattle.cargo_lock_check.specs.Finding.{UserInfo, lockfile_finding_line, missing_text}
 
-brackets-print : (s : Option Source) → Prints (source_in_brackets s)
-brackets-print None = empty
-brackets-print (Some s) = words (codes " (") refl (join (shown-prints Plain _) (literal (codes ")") refl))
-
-identity-prints : (i : Identity) → Prints (identity_shown i)
-identity-prints i = join (shown-prints Plain i.name) (words (codes " ") refl (join (shown-prints Plain _) (brackets-print i.source)))
-
-package-prints : (p : PackageData) → Prints (package_shown p)
-package-prints p = identity-prints (identity_of p)
+missing-prints : (d : Identity) → Prints (missing_text d)
+missing-prints d = either_text (is_none d.source)
+    (join (shown-prints Plain d.name) (words (codes " ") refl (version-prints d.version))) (dependency-prints d)
 
 refuser-prints : (b : Bool) → Prints (if b then codes "crates.io" else codes "Cargo")
 refuser-prints true = literal (codes "crates.io") refl
@@ -33,11 +26,11 @@ refuser-prints false = literal (codes "Cargo") refl
 line-prints : (f : LockfileFindingData) → Prints (lockfile_finding_line f)
 line-prints (LostDependency p d) =
     words (codes "reference: ") refl (join (package-prints p)
-    (words (codes " depends on ") refl (join (identity-prints d) (literal (codes ", which is missing from the lockfile") refl))))
+    (words (codes " depends on ") refl (join (missing-prints d) (literal (codes ", which is missing from the lockfile") refl))))
 line-prints (Twice p) = words (codes "twice: ") refl (join (package-prints p) (literal (codes " is listed more than once") refl))
 line-prints (RepeatedDependency p d) =
     words (codes "twice: ") refl (join (package-prints p)
-    (words (codes " lists ") refl (join (identity-prints d) (literal (codes " more than once") refl))))
+    (words (codes " lists ") refl (join (dependency-prints d) (literal (codes " more than once") refl))))
 line-prints (BadName p) =
     words (codes "name: ") refl (join (shown-prints Plain p.name)
     (words (codes " is not a name that ") refl (join (refuser-prints (is_cargo_name (chars p.name))) (literal (codes " accepts") refl))))
@@ -55,7 +48,7 @@ line-prints (StaleChecksum key) = words (codes "stale: `") refl (join (shown-pri
 line-prints (Misplaced p next) = words (codes "order: ") refl (join (package-prints p) (words (codes " is listed before ") refl (package-prints next)))
 line-prints (MisplacedDependency p d next) =
     words (codes "order: ") refl (join (package-prints p)
-    (words (codes " lists ") refl (join (identity-prints d) (words (codes " before ") refl (identity-prints next)))))
+    (words (codes " lists ") refl (join (dependency-prints d) (words (codes " before ") refl (dependency-prints next)))))
 line-prints (LossySource version text) =
     words (codes "format: V") refl (join (decimal-prints (number_of version))
     (words (codes " loses the tag, branch or revision of `") refl (join (shown-prints Quoted text) (literal (codes "`, and Cargo takes whatever it names now; V4 keeps it") refl))))

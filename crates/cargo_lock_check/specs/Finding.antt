@@ -1,17 +1,17 @@
 -- The findings of a lockfile, and the line of each.
-use Rattle.std.specs.Prelude.{◌≡◌, ℕ, List, [], ◌∷◌, ◌++◌, codes, decimal, false, if◌then◌else◌, map, Option, None, Some}
+use Rattle.std.specs.Prelude.{◌≡◌, ℕ, List, [], ◌∷◌, ◌++◌, codes, decimal, false, if◌then◌else◌, is_none, map}
 use Rattle.std.specs.List.{flat_map}
 use Rattle.std.specs.Str.{chars}
 use Rattle.std.specs.Str.Lines.{lines}
-use Rattle.semver.specs.Identifiers.{parts_text}
 use Rattle.printing.specs.Shown.{shown}
 use Rattle.printing.specs.declared.form.Form.TheVariants.{Plain, Quoted}
 use Rattle.cargo_lock_parts.specs.Ascii.{newline}
-use Rattle.cargo_lock_parts.specs.Identity.{Identity, PackageData, identity_of}
+use Rattle.cargo_lock_parts.specs.Identity.{Identity, PackageData}
 use Rattle.cargo_lock_parts.specs.Source.{Source}
 use Rattle.cargo_lock_parts.specs.SourceText.{text_of}
 use Rattle.cargo_lock_references.specs.declared.version.ResolveVersion.{ResolveVersion}
 use Rattle.cargo_lock_references.specs.Format.{number_of}
+use Rattle.cargo_lock_display.specs.Line.{dependency_shown, package_text, version_shown}
 use Rattle.cargo_lock_flaws.specs.Names.{is_cargo_name}
 use Rattle.cargo_lock_check.specs.declared.finding.Finding.{Finding}
 use Rattle.cargo_lock_check.specs.declared.finding.Finding.TheVariants.{LostDependency as LostDependencyAt, Twice as TwiceAt, RepeatedDependency as RepeatedDependencyAt, BadName as BadNameAt, Alike as AlikeAt, LookAlike as LookAlikeAt, Respelt as RespeltAt, UserInfo as UserInfoAt, NoRoot as NoRootAt, Orphan as OrphanAt, NoChecksum as NoChecksumAt, NoChecksums as NoChecksumsAt, StaleChecksum as StaleChecksumAt, Misplaced as MisplacedAt, MisplacedDependency as MisplacedDependencyAt, LossySource as LossySourceAt, NotKept as NotKeptAt, OtherLine as OtherLineAt}
@@ -65,19 +65,10 @@ lockfile_finding_of (OtherLineAt line) = OtherLine line.now
 abbrev pub source_shown : Source → List ℕ
 source_shown source = shown Plain (text_of false source)
 
--- a source in round brackets
-abbrev pub source_in_brackets : Option Source → List ℕ
-source_in_brackets None = []
-source_in_brackets (Some source) = codes " (" ++ (source_shown source ++ codes ")")
-
--- the name, the version and the source, as they are displayed
-abbrev pub identity_shown : Identity → List ℕ
-identity_shown i = shown Plain i.name
-    ++ (codes " " ++ (shown Plain (parts_text i.version) ++ source_in_brackets i.source))
-
--- the name, the version and the source of a package, as they are displayed
-abbrev pub package_shown : PackageData → List ℕ
-package_shown p = identity_shown (identity_of p)
+-- a dependency that is of no package, with its source if it names one
+abbrev pub missing_text : Identity → List ℕ
+missing_text d = if is_none d.source
+    then shown Plain d.name ++ (codes " " ++ version_shown d.version) else dependency_shown d
 
 -- who does not accept a name: crates.io, if Cargo does
 abbrev pub refuser : List ℕ → List ℕ
@@ -85,16 +76,16 @@ refuser name = if is_cargo_name (chars name) then codes "crates.io" else codes "
 
 -- the line of a finding
 abbrev pub lockfile_finding_line : LockfileFindingData → List ℕ
-lockfile_finding_line (LostDependency p d) = codes "reference: " ++ (package_shown p
-    ++ (codes " depends on " ++ (identity_shown d ++ codes ", which is missing from the lockfile")))
+lockfile_finding_line (LostDependency p d) = codes "reference: " ++ (package_text p
+    ++ (codes " depends on " ++ (missing_text d ++ codes ", which is missing from the lockfile")))
 lockfile_finding_line (Twice p) =
-    codes "twice: " ++ (package_shown p ++ codes " is listed more than once")
-lockfile_finding_line (RepeatedDependency p d) = codes "twice: " ++ (package_shown p
-    ++ (codes " lists " ++ (identity_shown d ++ codes " more than once")))
+    codes "twice: " ++ (package_text p ++ codes " is listed more than once")
+lockfile_finding_line (RepeatedDependency p d) = codes "twice: " ++ (package_text p
+    ++ (codes " lists " ++ (dependency_shown d ++ codes " more than once")))
 lockfile_finding_line (BadName p) = codes "name: " ++ (shown Plain p.name
     ++ (codes " is not a name that " ++ (refuser p.name ++ codes " accepts")))
-lockfile_finding_line (Alike p q) = codes "alike: " ++ (package_shown p
-    ++ (codes " and " ++ (package_shown q ++ codes " have one name on crates.io")))
+lockfile_finding_line (Alike p q) = codes "alike: " ++ (package_text p
+    ++ (codes " and " ++ (package_text q ++ codes " have one name on crates.io")))
 lockfile_finding_line (LookAlike source) =
     codes "source: " ++ (source_shown source ++ codes " is not crates.io")
 lockfile_finding_line (Respelt source) = codes "source: "
@@ -103,17 +94,17 @@ lockfile_finding_line (UserInfo source) =
     codes "source: " ++ (source_shown source ++ codes " has user info")
 lockfile_finding_line NoRoot = codes "root: no package is of the workspace"
 lockfile_finding_line (Orphan p) =
-    codes "orphan: " ++ (package_shown p ++ codes ": no package of the workspace leads to it")
+    codes "orphan: " ++ (package_text p ++ codes ": no package of the workspace leads to it")
 lockfile_finding_line (NoChecksum p) =
-    codes "checksum: " ++ (package_shown p ++ codes " has none, though others of its registry have")
+    codes "checksum: " ++ (package_text p ++ codes " has none, though others of its registry have")
 lockfile_finding_line (NoChecksums source) =
     codes "checksum: no package of " ++ (source_shown source ++ codes " has one")
 lockfile_finding_line (StaleChecksum key) =
     codes "stale: `" ++ (shown Quoted key ++ codes "` is in the metadata, and is of no package")
-lockfile_finding_line (Misplaced p next) = codes "order: " ++ (package_shown p
-    ++ (codes " is listed before " ++ package_shown next))
-lockfile_finding_line (MisplacedDependency p d next) = codes "order: " ++ (package_shown p
-    ++ (codes " lists " ++ (identity_shown d ++ (codes " before " ++ identity_shown next))))
+lockfile_finding_line (Misplaced p next) = codes "order: " ++ (package_text p
+    ++ (codes " is listed before " ++ package_text next))
+lockfile_finding_line (MisplacedDependency p d next) = codes "order: " ++ (package_text p
+    ++ (codes " lists " ++ (dependency_shown d ++ (codes " before " ++ dependency_shown next))))
 lockfile_finding_line (LossySource version text) = codes "format: V" ++ (decimal (number_of version)
     ++ (codes " loses the tag, branch or revision of `"
     ++ (shown Quoted text

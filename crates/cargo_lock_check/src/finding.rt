@@ -6,6 +6,7 @@ ghost use Rattle.cargo_lock_check.specs.Finding as told;
 ghost use Rattle.cargo_lock_check.specs.Finding.{lockfile_finding_line};
 
 use crate::text::OtherLine;
+use cargo_lock_display::{DependencyText, PackageText};
 use cargo_lock_flaws::is_cargo_name;
 use cargo_lock_parts::dependency::Dependency;
 use cargo_lock_parts::package::{Package, SourceId};
@@ -14,8 +15,8 @@ use printing::{Quoted, Shown};
 use std::fmt;
 
 /// One thing that is wrong with a lockfile. `Display` writes it as a line without a newline: its
-/// kind, a colon, and a text. A package is written as `NAME VERSION (SOURCE)`, and one without a
-/// source as `NAME VERSION`.
+/// kind, a colon, and a text. A package is written as `NAME VERSION` if it is of crates.io, else as
+/// `NAME VERSION (SOURCE)`, and one without a source as `NAME VERSION (path)`.
 ///
 /// ```
 /// for finding in findings.all(rt.alloc())?.as_slice() {
@@ -168,11 +169,33 @@ fn write_lost_dependency<W: fmt::Write>(
         (Some (lockfile_finding_line (told.LostDependency one.now dependency.now))) f.new }
 {
     let one = PackageText(one);
-    let dependency = DependencyText(dependency);
+    let dependency = MissingText(dependency);
     write!(
         f,
         "reference: {one} depends on {dependency}, which is missing from the lockfile"
     )
+}
+
+// Displays a dependency that is of no package. If it names no source, nothing is known of one.
+#[derive(Clone, Copy)]
+struct MissingText<'a>(&'a Dependency);
+
+impl fmt::Display for MissingText<'_> {
+    ghost use Rattle.std.specs.Prelude.{Some};
+    ghost use Rattle.cargo_lock_check.specs.Finding.{missing_text};
+
+    ghost output = { λ shown. Some (missing_text shown.0.now) };
+
+    fn fmt<W: fmt::Write>(&self, f: &mut fmt::Formatter<W>) -> fmt::Result {
+        let MissingText(dependency) = *self;
+        if dependency.source.is_none() {
+            let name = Shown(&dependency.name);
+            let version = Shown(&dependency.version);
+            return write!(f, "{name} {version}");
+        }
+        let text = DependencyText(dependency);
+        write!(f, "{text}")
+    }
 }
 
 fn write_repeated<W: fmt::Write>(
@@ -292,65 +315,5 @@ impl fmt::Display for OtherLine {
             f,
             "text: line {number} is not as Cargo writes it: `{written}` for `{wanted}`"
         )
-    }
-}
-
-// Displays the name, the version and the source of a package.
-#[derive(Clone, Copy)]
-struct PackageText<'a>(&'a Package);
-
-impl fmt::Display for PackageText<'_> {
-    ghost use Rattle.std.specs.Prelude.{Some};
-    ghost use Rattle.cargo_lock_check.specs.Finding.{package_shown};
-
-    ghost output = { λ shown. Some (package_shown shown.0.now) };
-
-    fn fmt<W: fmt::Write>(&self, f: &mut fmt::Formatter<W>) -> fmt::Result {
-        let PackageText(one) = *self;
-        let name = Shown(&one.name);
-        let version = Shown(&one.version);
-        let source = BracketedSource(&one.source);
-        write!(f, "{name} {version}{source}")
-    }
-}
-
-// Displays the name, the version and the source of a dependency.
-#[derive(Clone, Copy)]
-struct DependencyText<'a>(&'a Dependency);
-
-impl fmt::Display for DependencyText<'_> {
-    ghost use Rattle.std.specs.Prelude.{Some};
-    ghost use Rattle.cargo_lock_check.specs.Finding.{identity_shown};
-
-    ghost output = { λ shown. Some (identity_shown shown.0.now) };
-
-    fn fmt<W: fmt::Write>(&self, f: &mut fmt::Formatter<W>) -> fmt::Result {
-        let DependencyText(one) = *self;
-        let name = Shown(&one.name);
-        let version = Shown(&one.version);
-        let source = BracketedSource(&one.source);
-        write!(f, "{name} {version}{source}")
-    }
-}
-
-// Displays a source in round brackets, or nothing if there is none.
-#[derive(Clone, Copy)]
-struct BracketedSource<'a>(&'a Option<SourceId>);
-
-impl fmt::Display for BracketedSource<'_> {
-    ghost use Rattle.std.specs.Prelude.{Some};
-    ghost use Rattle.cargo_lock_check.specs.Finding.{source_in_brackets};
-
-    ghost output = { λ shown. Some (source_in_brackets shown.0.now) };
-
-    fn fmt<W: fmt::Write>(&self, f: &mut fmt::Formatter<W>) -> fmt::Result {
-        let BracketedSource(source) = *self;
-        match source {
-            Some(source) => {
-                let source = Shown(source);
-                write!(f, " ({source})")
-            }
-            None => Ok(()),
-        }
     }
 }

@@ -8,6 +8,7 @@ use Rattle.cargo_lock_parts.specs.Identity.{Identity, PackageData}
 use Rattle.cargo_lock_merge_core.specs.declared.numbered.Numbered.{Numbered}
 use Rattle.cargo_lock_merge_core.specs.declared.placed.Placed.{Placed}
 use Rattle.cargo_lock_merge_core.specs.declared.plan.Plan.{Plan}
+use Rattle.cargo_lock_merge_core.specs.declared.triple.Sides.{Sides}
 use Rattle.cargo_lock_merge_core.specs.Assembled.{IsAssembled, IsIdentityAt, IsIdentityAtIf}
 use Rattle.cargo_lock_merge_core.specs.Commits.{Lockfiles}
 use Rattle.cargo_lock_merge_core.specs.Lists.{all_numbered}
@@ -16,8 +17,8 @@ use Rattle.cargo_lock_merge_core.specs.Merged.{HasPlan}
 use Rattle.cargo_lock_merge_core.specs.Numbered.{all_data}
 use Rattle.cargo_lock_merge_core.specs.Placed.{PlacedData}
 use Rattle.cargo_lock_merge_core.specs.Moved.{AreListedPackages}
-use Rattle.cargo_lock_merge_core.specs.Plans.{IsNumbered, IsPlan}
-use Rattle.cargo_lock_merge_core.specs.Triples.{AreSidesOf}
+use Rattle.cargo_lock_merge_core.specs.Plans.{IsNumbered, IsPlan, numbered_triple}
+use Rattle.cargo_lock_merge_core.specs.Triples.{AreSidesOf, triple_in}
 use Rattle.cargo_lock_merge_core.proofs.Assembling.{assembled-merge, list-closed, list-numbered}
 use Rattle.cargo_lock_merge_core.proofs.Landing.{closed-both}
 use Rattle.lists.proofs.Members.{none-in}
@@ -112,3 +113,9 @@ is-outcome s m (Conflicts conflicts) merge are = absurd are
 -- the packages at their places are those of the list
 pub same-numbered : (behind : List Placed) (made : List Placed) (taken list : List Numbered) → behind ≡ made → all_data made ≡ all_numbered taken → taken ≡ list → all_data behind ≡ all_numbered list
 same-numbered behind made taken list e f g = ap all_data e ∙ f ∙ ap all_numbered g
+
+-- three lists of packages at their places are those of the three lists
+pub same-triple : (sides : Sides) (base ours theirs : List Placed)
+    → all_data base ≡ all_numbered sides.base.items → all_data ours ≡ all_numbered sides.ours.items
+    → all_data theirs ≡ all_numbered sides.theirs.items → numbered_triple base ours theirs ≡ triple_in sides
+same-triple sides base ours theirs b o t = λ i. record { base = b i; ours = o i; theirs = t i }

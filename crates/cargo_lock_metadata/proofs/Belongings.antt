@@ -5,7 +5,7 @@ use Rattle.std.proofs.lemmas.Cmp.{tied_itself}
 use Rattle.std.proofs.lemmas.Option.{same_Some, slice_get_within}
 use Rattle.std.proofs.Math.ListN.{length-set}
 use Rattle.lists.proofs.Members.{same-at, slice_get-set_other, slice_get-set_same}
-use Rattle.cargo_lock_metadata.specs.Belonging.{Belong, BelongsTo, HasPut, HasIdentityAt, IsForeign, IsForeignFault, HasNoFreePlace, NamesForeign}
+use Rattle.cargo_lock_metadata.specs.Belonging.{Belong, BelongsTo, HasPut, HasTextsAt, IsForeign, IsForeignFault, HasNoFreePlace, NamesForeign}
 use Rattle.cargo_lock_metadata.specs.Identity.{IdentityTexts, identity_texts_cmp, identity_texts_total}
 use Rattle.cargo_lock_metadata.specs.Index.{IsTiedAt}
 use Rattle.cargo_lock_metadata.specs.declared.belonging.BelongingError.{BelongingError}
@@ -14,10 +14,10 @@ use Rattle.cargo_lock_metadata.proofs.Identities.{identity-anti}
 
 -- ---- a place with the identity
 
-pub at-tied : (L : List IdentityTexts) (identity : IdentityTexts) (p : ℕ) → IsTiedAt identity_texts_cmp L identity p → HasIdentityAt L p identity
+pub at-tied : (L : List IdentityTexts) (identity : IdentityTexts) (p : ℕ) → IsTiedAt identity_texts_cmp L identity p → HasTextsAt L p identity
 at-tied L identity p h = h.1 ∙ ap Some (sym (identity-anti identity h.0 h.2))
 
-pub tied-at : (L : List IdentityTexts) (identity : IdentityTexts) (p : ℕ) → HasIdentityAt L p identity → IsTiedAt identity_texts_cmp L identity p
+pub tied-at : (L : List IdentityTexts) (identity : IdentityTexts) (p : ℕ) → HasTextsAt L p identity → IsTiedAt identity_texts_cmp L identity p
 tied-at L identity p at = (identity, at, tied_itself identity_texts_total identity)
 
 -- ---- what was there, and what is new
@@ -47,7 +47,7 @@ put-kept old own place p q free h = elim (cases_eq p own) [
 -- ---- one place more
 
 pub belong-set : (L D : List IdentityTexts) (place own : ℕ) (identity : IdentityTexts) (old : List (Option ℕ)) → Belong L D place old
-    → HasIdentityAt D place identity → HasIdentityAt L own identity → slice_get old own ≡ Some None → Belong L D (place + 1) (set old own (Some place))
+    → HasTextsAt D place identity → HasTextsAt L own identity → slice_get old own ≡ Some None → Belong L D (place + 1) (set old own (Some place))
 belong-set L D place own identity old h there here free =
     let low = slice_get_within old own None free in record {
       count = length-set old own (Some place) ∙ h.count;
@@ -56,8 +56,8 @@ belong-set L D place own identity old h there here free =
           let is = new.1 in omega (arith, is),
           (
             identity,
-            subst (λ k. HasIdentityAt L k identity) (sym new.0) here,
-            subst (λ k. HasIdentityAt D k identity) (sym new.1) there,
+            subst (λ k. HasTextsAt L k identity) (sym new.0) here,
+            subst (λ k. HasTextsAt D k identity) (sym new.1) there,
           ),
         )
         | inr before ↦ let r = h.same p q before.1 in (let less = r.0 in omega (arith, less), r.1)
@@ -79,14 +79,14 @@ belong-set L D place own identity old h there here free =
     }
 
 pub belong-put : (L D : List IdentityTexts) (place : ℕ) (identity : IdentityTexts) (old new : List (Option ℕ)) → Belong L D place old
-    → HasIdentityAt D place identity → HasPut L identity place old new → Belong L D (place + 1) new
+    → HasTextsAt D place identity → HasPut L identity place old new → Belong L D (place + 1) new
 belong-put L D place identity old new h there (own, here, free, is) =
     subst (Belong L D (place + 1)) (sym is) (belong-set L D place own identity old h there here free)
 
 -- ---- a package that belongs to none
 
 pub foreign-is : (L D : List IdentityTexts) (place : ℕ) (identity : IdentityTexts) (old : List (Option ℕ)) → Belong L D place old
-    → HasIdentityAt D place identity → HasNoFreePlace L identity old → IsForeign L D place identity
+    → HasTextsAt D place identity → HasNoFreePlace L identity old → IsForeign L D place identity
 foreign-is L D place identity old h there (inl none) = record { there = there; why = inl none }
 foreign-is L D place identity old h there (inr (p, q, here, b)) =
     let (less, (other, at, earlier)) = h.same p q b in

@@ -8,13 +8,13 @@ use Rattle.cargo_lock_metadata.specs.declared.belonging.BelongingError.TheVarian
 use Rattle.cargo_lock_metadata.specs.declared.name_and_version.NameAndVersion.{NameAndVersion}
 
 -- the list has the identity at the place
-abbrev pub HasIdentityAt : List IdentityTexts → ℕ → IdentityTexts → Type 0
-HasIdentityAt identities place identity = slice_get identities place ≡ Some identity
+abbrev pub HasTextsAt : List IdentityTexts → ℕ → IdentityTexts → Type 0
+HasTextsAt identities place identity = slice_get identities place ≡ Some identity
 
 -- the place p of a lockfile has the identity that the place q of a document has
 abbrev pub IsSame : (lockfile document : List IdentityTexts) → (p q : ℕ) → Type 0
-IsSame lockfile document p q = (identity : IdentityTexts) × HasIdentityAt lockfile p identity
-    × HasIdentityAt document q identity
+IsSame lockfile document p q = (identity : IdentityTexts) × HasTextsAt lockfile p identity
+    × HasTextsAt document q identity
 
 -- the place q of the document belongs to the place p of the lockfile
 abbrev pub BelongsTo : List (Option ℕ) → (p q : ℕ) → Type 0
@@ -35,9 +35,9 @@ pub record Belong (lockfile document : List IdentityTexts) (bound : ℕ) (places
 pub record IsForeign (lockfile document : List IdentityTexts) (q : ℕ) (identity : IdentityTexts)
     : Type 0
   where
-    pub there : HasIdentityAt document q identity
-    pub why : ((p : ℕ) → ¬ HasIdentityAt lockfile p identity)
-        ⊎ ((earlier : ℕ) × (earlier < q) × HasIdentityAt document earlier identity)
+    pub there : HasTextsAt document q identity
+    pub why : ((p : ℕ) → ¬ HasTextsAt lockfile p identity)
+        ⊎ ((earlier : ℕ) × (earlier < q) × HasTextsAt document earlier identity)
 
 -- the name and the version are those of the identity
 pub record IsNamed (n : NameAndVersion) (identity : IdentityTexts) : Type 0 where
@@ -59,10 +59,10 @@ NamesForeign identity Memory = Unit {0}
 
 -- a place of the lockfile has the identity and had no place of the document, and has this one now
 abbrev pub HasPut : List IdentityTexts → IdentityTexts → ℕ → (old new : List (Option ℕ)) → Type 0
-HasPut lockfile identity place old new = (p : ℕ) × HasIdentityAt lockfile p identity
+HasPut lockfile identity place old new = (p : ℕ) × HasTextsAt lockfile p identity
     × (slice_get old p ≡ Some None) × (new ≡ slice_set old p (Some place))
 
 -- no place of the lockfile has the identity, or the one that has it has a place of the document
 abbrev pub HasNoFreePlace : List IdentityTexts → IdentityTexts → List (Option ℕ) → Type 0
-HasNoFreePlace lockfile identity places = ((p : ℕ) → ¬ HasIdentityAt lockfile p identity)
-    ⊎ ((p : ℕ) × (q : ℕ) × HasIdentityAt lockfile p identity × BelongsTo places p q)
+HasNoFreePlace lockfile identity places = ((p : ℕ) → ¬ HasTextsAt lockfile p identity)
+    ⊎ ((p : ℕ) × (q : ℕ) × HasTextsAt lockfile p identity × BelongsTo places p q)

@@ -1,6 +1,6 @@
 use Rattle.std.proofs.Common.{◌∙◌, List, Some, ap, length, map, option_map, refl, sym}
 use Rattle.std.proofs.lemmas.Option.{slice_get-map, slice_get_read}
-use Rattle.cargo_lock_metadata.specs.Belonging.{HasIdentityAt}
+use Rattle.cargo_lock_metadata.specs.Belonging.{HasTextsAt}
 use Rattle.cargo_lock_metadata.specs.Document.{DocumentPackageData}
 use Rattle.cargo_lock_metadata.specs.Identity.{IdentityTexts}
 use Rattle.cargo_lock_metadata.proofs.Belongings.{belong-put, foreign-fault, foreign-is}
@@ -11,7 +11,7 @@ returns-then-not-put-clause-err c =
     let D : List DocumentPackageData = c.args.document.now in
     let identity : DocumentPackageData → IdentityTexts = λ (q : DocumentPackageData). q.identity in
     let q : DocumentPackageData = c.index-document-place.result in
-    let at : HasIdentityAt (map identity D) c.loop-place.place c.package.inside.identity =
+    let at : HasTextsAt (map identity D) c.loop-place.place c.package.inside.identity =
     slice_get-map identity D c.loop-place.place
     ∙ ap (option_map identity) (slice_get_read D (length D) c.loop-place.place q refl c.loop-place-test.true c.index-document-place.is)
     ∙ ap Some (sym (ap identity c.package.view_is)) in
@@ -24,7 +24,7 @@ loop-place-preserved c =
     let D : List DocumentPackageData = c.args.document.now in
     let identity : DocumentPackageData → IdentityTexts = λ (q : DocumentPackageData). q.identity in
     let q : DocumentPackageData = c.index-document-place.result in
-    let at : HasIdentityAt (map identity D) c.loop-place.place c.package.inside.identity =
+    let at : HasTextsAt (map identity D) c.loop-place.place c.package.inside.identity =
     slice_get-map identity D c.loop-place.place
     ∙ ap (option_map identity) (slice_get_read D (length D) c.loop-place.place q refl c.loop-place-test.true c.index-document-place.is)
     ∙ ap Some (sym (ap identity c.package.view_is)) in
