@@ -1,27 +1,22 @@
-use Rattle.std.proofs.Common.{inl, inr}
 use Rattle.cli_support.proofs.Writes.{if_ok_weaken}
 use Rattle.cli.proofs.merge.run.Goals as goal
 
-pub returns-in-Ok-clause-printed : goal.returns-in-Ok-clause-printed
-returns-in-Ok-clause-printed g c =
-    if_ok_weaken c.put_merge.result _ _ (λ ended printed. (
-      c.in_ok-inputs.inputs,
-      c.in_ok-inputs.ensures,
-      c.comments-comments.result,
-      c.comments-comments.ensures,
-      c.in_ok-telling.telling,
-      c.in_ok-telling.ensures,
-      inl (c.in-Ok.merge, rw c.in-Ok.is at c.merge.ensures.ok, printed),
-    )) c.put_merge.ensures.printed
+pub returns-in-Some-clause-printed : goal.returns-in-Some-clause-printed
+returns-in-Some-clause-printed g c =
+    if_ok_weaken c.favour.result _ _ (λ ended printed. record {
+      inputs = c.in_ok-inputs.inputs;
+      read = c.in_ok-inputs.ensures;
+      telling = c.in_ok-telling.telling;
+      asked = c.in_ok-telling.ensures;
+      printed = rw (← c.favoured_side.ensures, c.in-Some.is) printed;
+    }) c.favour.ensures.printed
 
 pub returns-clause-printed : goal.returns-clause-printed
 returns-clause-printed g c =
-    if_ok_weaken c.put_refusal.result _ _ (λ ended printed. (
-      c.in_ok-inputs.inputs,
-      c.in_ok-inputs.ensures,
-      c.comments-comments.result,
-      c.comments-comments.ensures,
-      c.in_ok-telling.telling,
-      c.in_ok-telling.ensures,
-      inr (c.in-Err.error, rw c.in-Err.is at c.merge.ensures.err, printed.0, printed.1),
-    )) c.put_refusal.ensures.printed
+    if_ok_weaken c.merge.result _ _ (λ ended printed. record {
+      inputs = c.in_ok-inputs.inputs;
+      read = c.in_ok-inputs.ensures;
+      telling = c.in_ok-telling.telling;
+      asked = c.in_ok-telling.ensures;
+      printed = rw (← c.favoured_side.ensures, c.in-None.is) printed;
+    }) c.merge.ensures.printed
