@@ -1,6 +1,6 @@
 -- Comments about conflicts, which a merge in which a side is favoured has at its top.
-use Rattle.std.specs.Prelude.{◌+◌, ◌++◌, ◌∷◌, ℕ, Bool, not, if◌then◌else◌, List, [], codes, eqb}
-use Rattle.std.specs.Prelude.{filter, map}
+use Rattle.std.specs.Prelude.{◌+◌, ◌++◌, ◌∷◌, ℕ, Bool, not, if◌then◌else◌, List, [], codes}
+use Rattle.std.specs.Prelude.{filter, map, nat_eq}
 use Rattle.std.specs.List.{starts_with}
 use Rattle.std.specs.Str.Lines.{lines}
 use Rattle.cargo_lock_lines.specs.Layout.{join_lines}
@@ -8,7 +8,7 @@ use Rattle.cargo_lock_layout.specs.Lines.{top_comments}
 
 -- the line is a comment about a conflict
 abbrev pub is_conflict_comment : List ℕ → Bool
-is_conflict_comment line = starts_with eqb line (codes "# conflict: ")
+is_conflict_comment line = starts_with nat_eq line (codes "# conflict: ")
 
 -- the lines, each behind `# ` and with its newline
 abbrev pub commented : List (List ℕ) → List ℕ
