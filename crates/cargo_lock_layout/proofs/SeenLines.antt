@@ -124,13 +124,14 @@ pub numbered-more : (n : ℕ) (lines : List (List ℕ)) (i : ℕ) → i < length
 numbered-more n lines i lt = at_drop_more (numbered_conflicts n) lines i [] lt ∙ numbered-one n (line_or_empty lines i) (drop (i + 1) lines)
 
 -- one more line as a comment
-pub commented-one : (lines : List (Bor (List ℕ))) (i : ℕ) (d : Bor (List ℕ)) (old new : List ℕ) → i < length lines
-    → new ≡ ((old ++ codes "# ") ++ (get_or lines i d).now) ++ 10 ∷ []
+pub commented-one : (lines : List (Bor (List ℕ))) (i : ℕ) (d : Bor (List ℕ)) (old marked lined new : List ℕ) → i < length lines
+    → marked ≡ old ++ codes "# " → lined ≡ marked ++ (get_or lines i d).now → new ≡ lined ++ 10 ∷ []
     → old ++ commented (map (λ (b : Bor (List ℕ)). b.now) (drop i lines)) ≡ commented (map (λ (b : Bor (List ℕ)). b.now) lines)
     → new ++ commented (map (λ (b : Bor (List ℕ)). b.now) (drop (i + 1) lines)) ≡ commented (map (λ (b : Bor (List ℕ)). b.now) lines)
-commented-one lines i d old new lt is before =
+commented-one lines i d old marked lined new lt mark put ends before =
     let line = (get_or lines i d).now in
     let rest = commented (map (λ (b : Bor (List ℕ)). b.now) (drop (i + 1) lines)) in
+    let is : new ≡ ((old ++ codes "# ") ++ line) ++ 10 ∷ [] = ends ∙ ap (λ t. t ++ 10 ∷ []) (put ∙ ap (λ t. t ++ line) mark) in
     let more : commented (map (λ (b : Bor (List ℕ)). b.now) (drop i lines)) ≡ ((codes "# " ++ line) ++ 10 ∷ []) ++ rest
     = at_drop_more (λ ls. commented (map (λ (b : Bor (List ℕ)). b.now) ls)) lines i d lt in
     let joined : (((old ++ codes "# ") ++ line) ++ 10 ∷ []) ++ rest ≡ old ++ (((codes "# " ++ line) ++ 10 ∷ []) ++ rest) = simp append_assoc in
