@@ -249,8 +249,11 @@ fn parts_of<'a>(
     rest: Rest,
 ) -> (Lockfile, LockfileConflicts<'a>)
     ensures lockfile { result.0 ≡ joined_lockfile packages.items rest }
-    ensures conflicts { result.1 ≡ record { packages = conflicts.entry;
-        metadata = rest.metadata.conflicts; format = None } }
+    ensures conflicts { result.1 ≡ record {
+      packages = conflicts.entry;
+      metadata = rest.metadata.conflicts;
+      format = None;
+    } }
 {
     let Rest {
         version,

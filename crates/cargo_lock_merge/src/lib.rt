@@ -27,8 +27,9 @@ mod spellings;
 mod words;
 
 pub use crate::comments::merge_comments;
-pub use crate::document::{conflicts_json, favoured_json, merged_json, refused_json};
-pub use crate::document::{unfavoured_json, unfavoured_text};
+pub use crate::document::{
+    conflicts_json, favoured_json, merged_json, refused_json, unfavoured_json, unfavoured_text,
+};
 pub use crate::favoured_lockfiles::favour_lockfiles;
 pub use crate::inputs::{MergeInput, MergeInputs};
 pub use crate::lockfiles::merge_lockfiles;

@@ -526,8 +526,12 @@ fn put_favoured<R: Files + AllocGlobal, W: Write>(
             Ok(Ended::WithLines(ExitCode::FAILURE, lines))
         }
         Telling::Document => {
-            let document =
-                favoured_json(rt.alloc(), comments, &favoured.conflicts, &favoured.remarks)?;
+            let document = favoured_json(
+                rt.alloc(),
+                comments,
+                &favoured.conflicts,
+                &favoured.remarks,
+            )?;
             put_in_file(rt, options, text, out)?;
             put_line(out, document.as_str())?;
             Ok(Ended::Silent(ExitCode::FAILURE))

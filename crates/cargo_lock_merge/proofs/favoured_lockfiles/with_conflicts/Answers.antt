@@ -14,6 +14,11 @@ returns-then-branch-clause-ok c = λ side s lockfile conflicts none. record {
 pub returns-clause-ok : goal.returns-clause-ok
 returns-clause-ok c = λ side s lockfile conflicts none. (
   conflicts,
-  inr (inl (c.args.lockfile, c.args.remarks, lockfile, λ t. true≢false (sym (c.in_ok-reads_back.ensures.ok.1 (subst (TextIsOf c.args.lockfile)
-  (sym (c.as_str-2.ensures.value ∙ c.in_ok-text.ensures.ok ∙ ap (λ (top : List ℕ). text_of_lockfile top c.args.lockfile) (c.as_str.ensures.value ∙ c.in_ok-top.ensures))) t)) ∙ c.if-branch.false))),
+  inr (inl (
+    c.args.lockfile,
+    c.args.remarks,
+    lockfile,
+    λ t. true≢false (sym (c.in_ok-reads_back.ensures.ok.1 (subst (TextIsOf c.args.lockfile)
+        (sym (c.as_str-2.ensures.value ∙ c.in_ok-text.ensures.ok ∙ ap (λ (top : List ℕ). text_of_lockfile top c.args.lockfile) (c.as_str.ensures.value ∙ c.in_ok-top.ensures))) t)) ∙ c.if-branch.false),
+  )),
 )

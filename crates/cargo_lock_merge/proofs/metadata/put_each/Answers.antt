@@ -17,5 +17,5 @@ loop-key-preserved c =
       finite = tt;
       either = either-next c.args.side conflicts first old new key put others c.loop-key.invariant.either;
       passed = passed-next c.args.side conflicts first old new key put others c.loop-key.invariant.either c.loop-key.key-iterator c.next.new.self c.in-Some.field-0-1.now
-      (rest_more deref_pair c.loop-key.key-iterator c.next.new.self c.next.result (c.in-Some.key, c.in-Some.field-0-1) c.in-Some.is c.next.ensures.steps) c.loop-key.invariant.passed;
+          (rest_more deref_pair c.loop-key.key-iterator c.next.new.self c.next.result (c.in-Some.key, c.in-Some.field-0-1) c.in-Some.is c.next.ensures.steps) c.loop-key.invariant.passed;
     }
