@@ -88,8 +88,8 @@ AreFavouredMetadata side s m = (key : List ℕ) → IsFavouredValue side (own_me
 
 -- ---- lockfiles
 
--- The lockfile is the merge of two sides over a base in which the side is favoured: it is as a merged
--- lockfile, but for the packages and the metadata.
+-- The lockfile is the merge of two sides over a base in which the side is favoured: it is as a
+-- merged lockfile, but for the packages and the metadata.
 pub record IsFavouredLockfile (side : Side) (s : LockfileTriple) (l : LockfileData) (rs : Remarks)
     : Type 0 where
   pub roots : HaveNoRoots s
@@ -109,8 +109,8 @@ with_conflicts c comments = as_comments (conflicts_text c) ++ comments
 abbrev pub favoured_text : List ℕ → LockfileConflicts → LockfileData → List ℕ
 favoured_text comments c l = text_of_lockfile (with_conflicts c comments) l
 
--- The sides are in conflict about this, and not about a format. The lockfile is the merge in which the
--- side is favoured, and this is its text, which reads back as it.
+-- The sides are in conflict about this, and not about a format. The lockfile is the merge in which
+-- the side is favoured, and this is its text, which reads back as it.
 pub record IsFavouredMerge (side : Side) (comments : List ℕ) (s : LockfileTriple)
     (f : FavouredLockfile) : Type 0 where
   pub conflicts : AreLockfileConflicts comments s f.conflicts
@@ -158,8 +158,8 @@ told_conflicts f r = record {
   format = None;
 }
 
--- the packages are the merge of the lists, without conflicts, or that in which the side is favoured,
--- with those of the lists
+-- the packages are the merge of the lists, without conflicts, or that in which the side is
+-- favoured, with those of the lists
 abbrev pub ArePackagesFavouring : Side → Lockfiles → Found → Type 0
 ArePackagesFavouring side all f =
     (IsMergeFound all f.packages.items f.remarks × (f.conflicts.items ≡ []))

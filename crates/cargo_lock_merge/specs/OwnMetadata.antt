@@ -78,7 +78,8 @@ abbrev pub of_side : {X : Type 0} → Side → X → X → X
 of_side Ours o t = o
 of_side Theirs o t = t
 
--- the value on which the three agree, or that of the side, where both changed it, each to another one
+-- the value on which the three agree, or that of the side, where both changed it, each to another
+-- one
 abbrev pub IsFavouredValue : {X : Type 0} → Side → X → X → X → X → Type 0
 IsFavouredValue side b o t m = IsAgreed b o t m ⊎ (IsInConflict b o t × (m ≡ of_side side o t))
 

@@ -48,7 +48,8 @@ pub struct FavouredLockfile<'a> {
 /// What a merge of lockfiles is in which a side is favoured.
 #[derive(Drop)]
 pub enum FavouredMerge<'a> {
-    /// The merged lockfile, its text, and what the merge reports, where the sides are in no conflict.
+    /// The merged lockfile, its text, and what the merge reports, where the sides are in no
+    /// conflict.
     Merged(Lockfile, String, Remarks<'a>),
 
     /// The merged lockfile in which the side is favoured.
@@ -61,12 +62,12 @@ pub enum FavouredMerge<'a> {
 /// The merge of two lockfiles over their base, in which this side is favoured where both are in
 /// conflict.
 ///
-/// Without a conflict it is that of `merge_lockfiles`. Otherwise the base and the other side have what
-/// the favoured side has at each disputed place, and at each disputed key of the metadata. Disputed are
-/// the places of a conflict, and those of a git source about whose commit there is one. Outside of them
-/// it is the merge. The text has a comment for each conflict at the top, `# conflict: ..`, above
-/// `comments`. If the packages then cannot be merged, or if the text does not read back, there is no
-/// such merge.
+/// Without a conflict it is that of `merge_lockfiles`. Otherwise the base and the other side have
+/// what the favoured side has at each disputed place, and at each disputed key of the metadata.
+/// Disputed are the places of a conflict, and those of a git source about whose commit there is
+/// one. Outside of them it is the merge. At the top of the text is a comment for each conflict,
+/// `# conflict: ..`, above `comments`. If the packages then cannot be merged, or if the text does
+/// not read back, there is no such merge.
 ///
 /// # Errors
 ///

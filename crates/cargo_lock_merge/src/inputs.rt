@@ -22,8 +22,8 @@ pub struct MergeInput {
     /// The lockfile.
     pub lockfile: Lockfile,
 
-    /// The comments at the top of its text that Cargo keeps, but those about conflicts, each with its
-    /// newline.
+    /// The comments at the top of its text that Cargo keeps, but those about conflicts, each with
+    /// its newline.
     pub comments: String,
 }
 
@@ -149,7 +149,8 @@ impl MergeInputs {
         )
     }
 
-    /// The merge in which this side is favoured, whose text has a comment for each conflict, and these.
+    /// The merge in which this side is favoured, whose text has a comment for each conflict, and
+    /// these.
     ///
     /// # Errors
     ///

@@ -269,7 +269,8 @@ pub(crate) fn put_favoured(
     put_each(metadata, conflicts, side)
 }
 
-// The same, where a key has no conflict or the value of the side, and the old value or that of the side.
+// The same, where a key has no conflict or the value of the side, and the old value or that of the
+// side.
 fn put_each(
     metadata: &mut Metadata,
     conflicts: &BTreeMap<MetadataKey, MetadataConflict>,

@@ -131,7 +131,8 @@ PrintsUnfavoured side Document conflicts old new =
     PrintsLine (IsJsonText (unfavoured_json side conflicts)) old new
 
 -- a merge without a conflict is printed and ends with success; one in which the side is favoured is
--- printed too, and ends with a failure; conflicts of which there is none end with the status of a fault
+-- printed too, and ends with a failure; conflicts of which there is none end with the status of a
+-- fault
 abbrev pub PrintsFavouredAs : Side → Telling → Found → MergedComments → FavouredMerge
     → Option (List ℕ) → Option (List ℕ) → Type 0 → Type 0 → Type 0 → Type 0
 PrintsFavouredAs side telling found comments (favoured.Merged lockfile text remarks) old new failure

@@ -52,9 +52,9 @@ requirement admits a version, so run `cargo metadata --locked` after a merge.
 With --json all that is one line of JSON on standard output, and the lockfile goes to the file of \
 --output, which must be given.
 
-With --favor the merge is written in spite of a conflict: at each disputed place it has what that side \
-has, and at its top a comment `# conflict: ..` for each conflict. `check` reports such a comment, and a \
-merge drops it. Where that is no merge either, the status is 2, and nothing is written.
+With --favor the merge is written in spite of a conflict: at each disputed place it has what that \
+side has, and at its top a comment `# conflict: ..` for each conflict. `check` reports such a \
+comment, and a merge drops it. Where that is no merge either, the status is 2, and nothing is written.
 
 The status is 1 where there is a conflict, and 2 where a lockfile cannot be read or merged.";
 
@@ -111,14 +111,14 @@ enum Telling {
 }
 
 /// Writes the merge of two lockfiles over a base into the output file, or to `out`. The status is
-/// then 0. Where the sides are in conflict nothing is written, and the status is 1. If the arguments
-/// favour a side, the merge in which it is favoured is written then, and the status is 1; if there is
-/// none, nothing is written, and the status is 2. What standard error is to have comes with the status:
-/// a line for each conflict, or for each version that was chosen, each checksum that a side lost, and
-/// each dependency that neither side has. If the arguments ask for JSON, `out` gets all that as one line
-/// in its place. That line also says why lockfiles cannot be merged, and the status is then 2. Fails if
-/// lockfiles cannot be merged otherwise, if one is not read, if JSON is asked for and the output is no
-/// file, and if the output fails.
+/// then 0. Where the sides are in conflict nothing is written, and the status is 1. If the
+/// arguments favour a side, the merge in which it is favoured is written then, and the status is 1;
+/// if there is none, nothing is written, and the status is 2. What standard error is to have comes
+/// with the status: a line for each conflict, or for each version that was chosen, each checksum
+/// that a side lost, and each dependency that neither side has. If the arguments ask for JSON,
+/// `out` gets all that as one line in its place. That line also says why lockfiles cannot be
+/// merged, and the status is then 2. Fails if lockfiles cannot be merged otherwise, if one is not
+/// read, if JSON is asked for and the output is no file, and if the output fails.
 pub(crate) fn run<R: Files + Input + AllocGlobal, W: Write>(
     rt: &R,
     options: &ArgMatches<'_>,
@@ -463,8 +463,8 @@ fn put_conflicts<W: Write>(
     }
 }
 
-/// Writes a merge in which the side is favoured where both are in conflict. Returns the status, with
-/// what standard error is to have.
+/// Writes a merge in which the side is favoured where both are in conflict. Returns the status,
+/// with what standard error is to have.
 fn put_favouring<R: Files + AllocGlobal, W: Write>(
     rt: &R,
     options: &ArgMatches<'_>,
@@ -498,8 +498,8 @@ fn put_favouring<R: Files + AllocGlobal, W: Write>(
     }
 }
 
-/// Writes the text of a lockfile in which a side is favoured. Returns the status, with what standard
-/// error is to have: a line for each conflict, and what the merge reports.
+/// Writes the text of a lockfile in which a side is favoured. Returns the status, with what
+/// standard error is to have: a line for each conflict, and what the merge reports.
 fn put_favoured<R: Files + AllocGlobal, W: Write>(
     rt: &R,
     options: &ArgMatches<'_>,
