@@ -1,4 +1,3 @@
-use Rattle.std.proofs.lemmas.Result.{OnOk-weaker}
 use Rattle.cargo_lock_merge.proofs.FavouringValues.{favoured-at-end}
 use Rattle.cargo_lock_merge.proofs.metadata.put_favoured.Goals as goal
 
