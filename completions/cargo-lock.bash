@@ -110,10 +110,11 @@ _cargo_lock() {
         ;;
     merge)
         case $previous in
+        --favor) _cargo_lock_offer 'ours theirs' ;;
         -o | --output) _cargo_lock_files ;;
         *)
             if [[ $current == -* ]]; then
-                _cargo_lock_offer '--any-size --json -o --output -h --help'
+                _cargo_lock_offer '--any-size --favor --json -o --output -h --help'
             else
                 _cargo_lock_files
             fi

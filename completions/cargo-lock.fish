@@ -109,6 +109,7 @@ complete -c cargo-lock -n '__cargo_lock_runs graph' -s h -l help -d 'Print help'
 complete -c cargo-lock -n '__cargo_lock_runs graph' -a '(__cargo_lock_packages)' -d SPEC
 
 complete -c cargo-lock -n '__cargo_lock_runs merge' -l any-size -d 'Reads a lockfile of 256 MiB or more too'
+complete -c cargo-lock -n '__cargo_lock_runs merge' -l favor -x -a 'ours theirs' -d 'Writes the merge with what this side has where both are in conflict'
 complete -c cargo-lock -n '__cargo_lock_runs merge' -l json -d 'Prints one line of JSON'
 complete -c cargo-lock -n '__cargo_lock_runs merge' -s o -l output -r -F -d 'The file that is written, - for standard output'
 complete -c cargo-lock -n '__cargo_lock_runs merge' -s h -l help -d 'Print help'

@@ -130,6 +130,7 @@ _cargo-lock() {
     merge)
         _arguments -s \
             '--any-size[Reads a lockfile of 256 MiB or more too]' \
+            '--favor[Writes the merge with what this side has where both are in conflict]:SIDE:(ours theirs)' \
             '--json[Prints one line of JSON]' \
             '(-o --output)'{-o,--output}'[The file that is written, - for standard output]:PATH:_files' \
             '(- *)'{-h,--help}'[Print help]' \

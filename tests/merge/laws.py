@@ -3,8 +3,8 @@ of them says how a merge is found: they know places, and otherwise only read loc
 """
 import re
 
-from lockfiles import CRATES_IO, Refused, kept_comments, print_text, read, respelt, sources_of
-from lockfiles import version_order
+from lockfiles import CRATES_IO, Refused, kept_comments, print_text, read, respelt
+from lockfiles import settled_comments, sources_of, version_order
 from model import ROLES, Side, doubled_names, rule3, shown, with_commit
 
 LINE = re.compile(r"(conflict: .*?: )(.* -> )?(.*) \(ours\), (.*) \(theirs\)")
@@ -46,7 +46,7 @@ class View:
 
     def __init__(self, text, doubled, role="merged"):
         self.lockfile = read(text)
-        self.comments = kept_comments(text)
+        self.comments = settled_comments(text)
         self.side = Side(role, by_forms(self.lockfile), doubled)
         self.at = self.side.at
 
@@ -324,12 +324,55 @@ def check_stable(merge, texts, answer):
             "a merge is stable")
 
 
-def check(merge, texts, number):
-    """All laws of a triple, where `merge` gives answers. Returns the answer to the triple."""
+# A conflict about the version of a package, which no other has.
+VERSIONS = re.compile(r"conflict: (\S+): (?:\S+ -> )?(\S+) \(ours\), (\S+) \(theirs\)")
+
+
+def check_favoured(merge, favour, texts, answer, role):
+    """The laws of the answer where a side is favoured."""
+    found = favour(texts, role)
+    if answer.status != 1:
+        ask(found == answer, "without a conflict nothing changes where a side is favoured")
+        return
+    if found.status == 2:
+        ask(found.text == "" and found.lines[1:] == answer.lines, "a favour in vain writes nothing")
+        return
+    ask(found.status == 1 and found.lines[:len(answer.lines)] == answer.lines,
+        "the conflicts are told where a side is favoured")
+    doubled = doubled_names([read(it) for it in texts])
+    views = [View(text, doubled, side) for text, side in zip(texts, ROLES)]
+    merged = View(found.text, doubled)
+    ask(not merged.has_orphan(), "a merge in which a side is favoured has no orphan")
+    ask(kept_comments(found.text)[:len(answer.lines)] == tuple(f"# {it}" for it in answer.lines),
+        "each conflict is a comment")
+    ask("# conflict: " not in merge([texts[0], found.text, found.text]).text,
+        "a merge drops the comments about conflicts")
+    for place, it in merged.at.items():
+        sides = [side.at[place] for side in views[1:] if place in side.at]
+        ask(it.key() in [side.key() for side in sides], f"a package is of a side: {it.key()}")
+        if len(sides) == 2 and sides[0].key() == sides[1].key():
+            ask(it.key() == sides[0].key(), f"a package stays that both sides have: {it.key()}")
+    check_versions(views, merged, answer, role)
+
+
+def check_versions(views, merged, answer, role):
+    """Of two versions in conflict the merge has not that of the other side."""
+    keys = {it.key() for view in views for it in view.at.values()}
+    for line in answer.lines:
+        conflict = VERSIONS.fullmatch(line)
+        if conflict and len({key.source for key in keys if key.name == conflict[1]}) == 1:
+            other = conflict[2 if role == "theirs" else 3]
+            ask(all((it.name, it.version) != (conflict[1], other) for it in merged.identities()),
+                f"the favoured side is taken: {line}")
+
+
+def check(merge, favour, texts, number):
+    """All laws of a triple, where `merge` and `favour` give answers. Returns the answer to the triple."""
     answer = merge(texts)
     check_answer(texts, answer)
     check_exchange(merge, texts, answer)
     if answer.status != 2:
         check_one_side(merge, texts, number % 6)
         check_stable(merge, texts, answer)
+        check_favoured(merge, favour, texts, answer, ROLES[1 + number % 2])
     return answer

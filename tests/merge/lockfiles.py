@@ -309,3 +309,8 @@ def kept_comments(text):
         if number > 1 or line != MARKS[number]:
             kept.append(line)
     return tuple(kept)
+
+
+def settled_comments(text):
+    """The same but those about conflicts, which a merge drops."""
+    return tuple(it for it in kept_comments(text) if not it.startswith("# conflict: "))

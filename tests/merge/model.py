@@ -2,7 +2,7 @@
 """A model of `cargo-lock merge`: the definition of the merge of lockfiles by packages, step by step,
 over places. `run` compares the program with it.
 
-    tests/merge/model.py merge BASE OURS THEIRS [-o PATH]    merges as the program does
+    tests/merge/model.py merge BASE OURS THEIRS [--favor SIDE] [-o PATH]    merges as the program does
 
 It is written from the definition alone, for reading, and takes no care of time.
 """
@@ -13,8 +13,8 @@ import sys
 
 sys.dont_write_bytecode = True
 
-from lockfiles import Identity, Lockfile, Package, Refused, kept_comments, numbers, print_text
-from lockfiles import read, respelt, sources_of, version_order
+from lockfiles import Identity, Lockfile, Package, Refused, numbers, print_text, read, respelt
+from lockfiles import settled_comments, sources_of, version_order
 
 ROLES = ("base", "ours", "theirs")
 # What a side without a thing has, and the answer of the rule of three where both changed it.
@@ -189,6 +189,9 @@ class Merge:
         lockfiles = in_one_spelling(lockfiles)
         self.doubled = doubled_names(lockfiles)
         self.sides = [Side(*it, self.doubled) for it in zip(ROLES, lockfiles)]
+        self.settle()
+
+    def settle(self):
         self.base, self.ours, self.theirs = self.sides
         self.reached = self.search()
         self.conflicts = self.all_conflicts()
@@ -375,6 +378,18 @@ class Merge:
         return [conflict_line(f"{what} of {named(key)}", values,
                               lambda it: "none" if it == ABSENT else it)]
 
+    # ---- the places of conflicts
+
+    def disputed_places(self):
+        """The places of conflicts, and those of git sources about whose commit there is one."""
+        return ({it for it in self.reached if self.is_disputed(it)}
+                | {place for side in self.sides for place in side.at
+                   if place.source and place.source.word == "git"
+                   and self.commit(place.source) == DISPUTED})
+
+    def is_disputed(self, place):
+        return not self.chosen(place) or DISPUTED in (self.checksum(place), self.replacement(place))
+
     # ---- what is no conflict, each as its line
 
     def notices(self):
@@ -422,6 +437,43 @@ class Merge:
         """Whether several merged packages have the name and the version."""
         same = [it for it in self.answer.packages if named(it.identity) == named(identity)]
         return len(same) > 1
+
+
+class FavouredSide(Side):
+    """The base, or a side, with what the favoured one has at disputed places. It may be refused."""
+
+    def __init__(self, side, own, disputed):
+        self.role, self.lockfile = side.role, side.lockfile
+        at = {place: (own if place in disputed else side).get(place)
+              for place in {*side.at, *disputed}}
+        self.at = {place: it for place, it in at.items() if it}
+        self.commits = {}
+        for place, it in self.at.items():
+            if place.source and place.source.word == "git":
+                now = it.key().source.commit
+                if self.commits.setdefault(place.source, now) != now:
+                    self.refuse(f"{place.source.text()}: two commits")
+
+
+class Favoured(Merge):
+    """The merge in which a side is favoured, of lockfiles that are in conflict. It may be refused."""
+
+    def __init__(self, merge, role):
+        self.choices, self.doubled = {}, merge.doubled
+        self.own = ROLES.index(role)
+        own, disputed = merge.sides[self.own], merge.disputed_places()
+        self.keys = {it for it in merge.metadata_keys() if merge.metadata_at(it) == DISPUTED}
+        self.sides = [it if it is own else FavouredSide(it, own, disputed) for it in merge.sides]
+        known = {place for it in self.sides[1:] for place in it.at}
+        for side in self.sides[1:]:
+            for it in side.at.values():
+                if not it.dependencies | {it.replacement} - {None} <= known:
+                    side.refuse(f"{it.key().name}: no package")
+        self.settle()
+
+    def metadata_values(self, key):
+        values = super().metadata_values(key)
+        return [values[self.own]] * 3 if key in self.keys else values
 
 
 def survives(lockfile):
@@ -509,12 +561,34 @@ def merge(texts):
         return Answer(2, "", [f"*** error: {error}"])
     if merge.conflicts:
         return Answer(1, "", merge.conflicts)
-    kept = [kept_comments(it) for it in texts]
-    comments, told = rule3(*kept), []
-    if comments == DISPUTED:
-        comments = kept[1]
-        told.append("comments: both sides changed those at the top; ours are taken")
+    comments, told = merged_comments(texts)
     return Answer(0, print_text(merge.answer, comments), told + merge.remarks)
+
+
+def merged_comments(texts):
+    """The comments at the top of a merge, and the lines about them."""
+    kept = [settled_comments(it) for it in texts]
+    comments = rule3(*kept)
+    if comments != DISPUTED:
+        return comments, []
+    return kept[1], ["comments: both sides changed those at the top; ours are taken"]
+
+
+def favour(texts, role):
+    """What the program answers where the side is favoured."""
+    answer = merge(texts)
+    if answer.status != 1:
+        return answer
+    try:
+        found = Favoured(Merge([read_side(*it) for it in zip(ROLES, texts)]), role)
+    except Refused:
+        found = None
+    if not found or found.conflicts:
+        why = f"*** error: no merge has {role} where the sides are in conflict"
+        return Answer(2, "", [why, *answer.lines])
+    comments, told = merged_comments(texts)
+    comments = (*(f"# {it}" for it in answer.lines), *comments)
+    return Answer(1, print_text(found.answer, comments), answer.lines + told + found.remarks)
 
 
 def text_at(path, may_lack):
@@ -544,7 +618,11 @@ def put_out(text, output):
 
 def main(words):
     """Merges as the program does. Returns the status."""
-    output = None
+    output = role = None
+    if "--favor" in words[:-1]:
+        at = words.index("--favor")
+        role = words[at + 1]
+        words = words[:at] + words[at + 2:]
     if words and words[-1].startswith("--output="):
         output = words.pop().removeprefix("--output=")
     elif "-o" in words[:-1]:
@@ -553,10 +631,10 @@ def main(words):
         words = words[:at] + words[at + 2:]
     try:
         if len(words) != 4 or words[0] != "merge" or words[1:].count("-") > 1:
-            raise OSError("the words are not merge BASE OURS THEIRS [-o PATH]")
+            raise OSError("the words are not merge BASE OURS THEIRS [--favor SIDE] [-o PATH]")
         texts = [text_at(path, number == 0) for number, path in enumerate(words[1:])]
-        answer = merge(texts)
-        if answer.status == 0:
+        answer = favour(texts, role) if role else merge(texts)
+        if answer.text or answer.status == 0:
             put_out(answer.text, output)
     except (OSError, UnicodeDecodeError) as error:
         answer = Answer(2, "", [f"*** error: {error}"])

@@ -3,7 +3,7 @@ import os
 import subprocess
 
 from rows import fault_of, rows
-from model import Answer
+from model import Answer, favour
 
 
 class Program:
@@ -25,11 +25,15 @@ class Program:
         return Answer(ran.returncode, (ran.stdout or b"").decode("utf-8", "replace"),
                       ran.stderr.decode("utf-8", "replace").splitlines())
 
-    def merge(self, texts):
+    def merge(self, texts, *words):
         """The answer to three texts."""
         for name, text in zip(("base", "ours", "theirs"), texts):
             self.put(name, text)
-        return self.run("merge", "base", "ours", "theirs")
+        return self.run("merge", "base", "ours", "theirs", *words)
+
+    def favour(self, texts, role):
+        """The same where a side is favoured."""
+        return self.merge(texts, "--favor", role)
 
 
 NAMES = ["base", "ours", "theirs"]
@@ -138,7 +142,29 @@ class Asked:
         yield self.unchanged("four files", 2, *NAMES, "base")
 
 
+    def favoured(self):
+        """A conflict where a side is favoured, into each file."""
+        for role in NAMES[1:]:
+            wanted = favour(self.bad, role)
+            yield f"--favor {role}: a conflict", fault_of(wanted[:1], (1,))
+            self.lay(self.bad)
+            yield self.unchanged(f"--favor {role}", wanted, *NAMES, "--favor", role)
+            for path in ["new", *NAMES]:
+                self.lay(self.bad)
+                answer = self.program.run("merge", *NAMES, f"--favor={role}", "-o", path)
+                what = f"--favor {role} -o {path}"
+                yield what, fault_of(answer, (1, "", wanted.lines))
+                text = self.files()[path][0]
+                yield f"{what}: the text", None if text == wanted.text else f"another text: {text!r}"
+            self.lay(self.good)
+            yield self.unchanged(f"--favor {role} without a conflict", self.merged, *NAMES, "--favor",
+                                 role)
+        self.lay(self.bad)
+        for words in (["--favor", "base"], ["--favor"], ["--favor", "ours", "--favor", "theirs"]):
+            yield self.unchanged(" ".join(words), 2, *NAMES, *words)
+
+
 def ask_paths(program):
     asked = Asked(program)
-    for part in (asked.outputs, asked.unwritten, asked.streams, asked.lacking):
+    for part in (asked.outputs, asked.unwritten, asked.streams, asked.lacking, asked.favoured):
         yield from part()

@@ -4,6 +4,7 @@
     wrong.py NAME PROGRAM merge BASE OURS THEIRS [-o PATH]
 """
 import os
+import re
 import shlex
 import subprocess
 import sys
@@ -25,6 +26,9 @@ WRONG = {
     "half": "writes a conflict into the output file",
     "sides": "exchanges the sides of conflicts",
     "newline": "prints one more newline",
+    "other": "favours the other side",
+    "settled": "ends a merge in which a side is favoured with success",
+    "uncommented": "writes no comments about conflicts",
 }
 
 
@@ -51,6 +55,10 @@ def changed(name, words, status, text, lines):
             "(x)", "(theirs)")
     if name == "silent" and status == 0:
         return status, text, ""
+    if name == "settled" and status == 1 and text:
+        return 0, text, lines
+    if name == "uncommented":
+        return status, re.sub(r"(?m)^# conflict: .*\n", "", text), lines
     if name == "newline" and text:
         return status, text + "\n", lines
     if name == "drops" and "\n[[package]]\n" in text:
@@ -71,13 +79,16 @@ def main(name, program, *words):
         at = asked.index("-o")
         output = asked[at + 1]
         del asked[at:at + 2]
+    if name == "other":
+        asked = [{"ours": "theirs", "theirs": "ours"}[it] if before == "--favor" else it
+                 for before, it in zip(["", *asked], asked)]
     ran = subprocess.run([program, *asked], capture_output=name not in ("right", "half"), text=True)
     if name in ("right", "half"):
         if name == "half" and ran.returncode == 1 and "-o" in asked:
             open(asked[asked.index("-o") + 1], "w", encoding="utf-8").close()
         return ran.returncode
     status, text, lines = changed(name, asked, ran.returncode, ran.stdout, ran.stderr)
-    if output and status == 0:
+    if output and text:
         with open(output, "w", encoding="utf-8") as file:
             file.write(text)
     else:

@@ -1,7 +1,7 @@
 -- The depth of the document of findings.
 use Rattle.std.proofs.Common.{◌≤◌, ℕ, List, None, Option, arith}
 use Rattle.json.specs.Tree.{depth}
-use Rattle.cargo_lock_check.specs.Finding.{Alike, BadName, LockfileFindingData, LookAlike, LossySource, LostDependency, Misplaced, MisplacedDependency, NoChecksum, NoChecksums, NoRoot, NotKept, Orphan, OtherLine, RepeatedDependency, Respelt, StaleChecksum, Twice, UserInfo}
+use Rattle.cargo_lock_check.specs.Finding.{Alike, BadName, LockfileFindingData, LookAlike, LossySource, LostDependency, Misplaced, MisplacedDependency, NoChecksum, NoChecksums, NoRoot, NotKept, Orphan, OtherLine, RepeatedDependency, Respelt, StaleChecksum, Twice, Unsettled, UserInfo}
 use Rattle.cargo_lock_parts.specs.Identity.{identity_of}
 use Rattle.cargo_lock_check.specs.Document.{lockfile_finding_json, lockfile_finding_package, other_json}
 use Rattle.cargo_lock_display.proofs.Depth.{identity-depth, package-depth}
@@ -25,6 +25,7 @@ other-depth (NoChecksums source) = omega arith
 other-depth (StaleChecksum key) = omega arith
 other-depth (LossySource version text) = omega arith
 other-depth (NotKept version) = omega arith
+other-depth (Unsettled comment) = omega arith
 other-depth (OtherLine line) = omega arith
 
 pub finding-depth : (line : Option ℕ) (f : LockfileFindingData) → depth (lockfile_finding_json line f) ≤ 4

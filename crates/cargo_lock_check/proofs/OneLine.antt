@@ -13,7 +13,7 @@ use Rattle.cargo_lock_check.specs.Finding.{LockfileFindingData, LookAlike, Lossy
 use Rattle.cargo_lock_check.specs.Finding.{LostDependency, Misplaced, MisplacedDependency}
 use Rattle.cargo_lock_check.specs.Finding.{NoChecksum, NoChecksums, NoRoot, NotKept, Orphan}
 use Rattle.cargo_lock_check.specs.Finding.{OtherLine, RepeatedDependency, Respelt, StaleChecksum, Twice}
-use Rattle.cargo_lock_check.specs.Finding.{UserInfo, lockfile_finding_line, missing_text}
+use Rattle.cargo_lock_check.specs.Finding.{Unsettled, UserInfo, lockfile_finding_line, missing_text}
 
 missing-prints : (d : Identity) → Prints (missing_text d)
 missing-prints d = either_text (is_none d.source)
@@ -53,6 +53,9 @@ line-prints (LossySource version text) =
     words (codes "format: V") refl (join (decimal-prints (number_of version))
     (words (codes " loses the tag, branch or revision of `") refl (join (shown-prints Quoted text) (literal (codes "`, and Cargo takes whatever it names now; V4 keeps it") refl))))
 line-prints (NotKept version) = words (codes "format: V") refl (join (decimal-prints (number_of version)) (literal (codes " does not keep this lockfile") refl))
+line-prints (Unsettled comment) =
+    words (codes "conflict: line ") refl (join (decimal-prints comment.number)
+    (words (codes " is about a conflict of a merge: `") refl (join (shown-prints Quoted comment.text) (literal (codes "`") refl))))
 line-prints (OtherLine other) =
     words (codes "text: line ") refl (join (decimal-prints other.number)
     (words (codes " is not as Cargo writes it: `") refl (join (shown-prints Quoted other.written)

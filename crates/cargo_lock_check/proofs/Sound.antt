@@ -14,7 +14,7 @@ use Rattle.cargo_lock_parts.specs.Identity.{Identity}
 use Rattle.cargo_lock.specs.CargoChecksums.{cargo_checksum, with_checksum}
 use Rattle.std.proofs.lemmas.List.{length-map}
 use Rattle.cargo_lock_flaws.specs.Dependencies.{AreDependencies, HoldsAt, HoldsOfDependency, IsDependencyMisplacedAt, IsRepeatedAt, IsSameDependency}
-use Rattle.cargo_lock_check.specs.Finding.{Alike, BadName, LockfileFindingData, LookAlike, LossySource, LostDependency, Misplaced, MisplacedDependency, NoChecksum, NoChecksums, NoRoot, Orphan, OtherLine, RepeatedDependency, Respelt, StaleChecksum, Twice, UserInfo}
+use Rattle.cargo_lock_check.specs.Finding.{Alike, BadName, LockfileFindingData, LookAlike, LossySource, LostDependency, Misplaced, MisplacedDependency, NoChecksum, NoChecksums, NoRoot, Orphan, OtherLine, RepeatedDependency, Respelt, StaleChecksum, Twice, Unsettled, UserInfo}
 use Rattle.cargo_lock_check.specs.Findings.{AreFindings, AreLossy, FindingsData, HasNoFindings, HasNothingMisleading, IsSourceLostIn, IsOther, IsOtherLine, IsWrittenByCargo, PlacedFindingData, alike_at, checked_packages, dependency_at, found_at_place, found_nowhere, misplaced_at, misplaced_dependency_at, flawed_at, placed_told, source_finding_at, told_of_checksums, told_of_format, told_of_formats, told_of_misleading, told_of_order, told_of_orphans, told_of_twice, with_next}
 use Rattle.cargo_lock_flaws.specs.Alike.{AreAlikeAt, ArePairsAlike, IsFirstAlike}
 use Rattle.cargo_lock_flaws.specs.Lost.{IsLostAt}
@@ -112,6 +112,7 @@ empty_if_sound text l f is = (
     ordered = λ k h. (places-empty (IsMisplaced l.packages) (length l.packages) f.misplaced is.misplaced).0 e.misplaced k (within _ l.packages k h) h;
     listed_in_order = (dependencies-empty (IsDependencyMisplacedAt l.packages) f.misplaced_dependencies is.misplaced_dependencies).0 e.misplaced_dependencies;
     kept = (is.is_kept.asked e.lossy).0 e.is_kept;
+    settled = sym is.unsettled ∙ e.unsettled;
     written = λ rootless.
         subst (λ o. MatchOption o (IsWrittenByCargo text l) (IsOther text l)) e.other_line
         ((is.other_line.asked e.lossy).compared record { rootless = rootless; kept = (is.is_kept.asked e.lossy).0 e.is_kept });
@@ -135,6 +136,7 @@ empty_if_sound text l f is = (
     misplaced = (places-empty (IsMisplaced l.packages) (length l.packages) f.misplaced is.misplaced).1 (λ k _. s.ordered k);
     misplaced_dependencies = (dependencies-empty (IsDependencyMisplacedAt l.packages) f.misplaced_dependencies is.misplaced_dependencies).1 s.listed_in_order;
     is_kept = (is.is_kept.asked none).1 s.kept;
+    unsettled = is.unsettled ∙ s.settled;
     other_line = other-none text l f.other_line (is.other_line.asked none) s.written;
   },
 )
@@ -279,6 +281,7 @@ told-nothing text l f is e =
     let o = append-none (filter_map (misplaced_at f.packages) f.misplaced) _ e6.0 in
     let e7 = append-none (told_of_formats f) _ e6.1 in
     let v = append-none (map (λ source. found_nowhere (LossySource f.version source)) f.lossy) _ e7.0 in
+    let w = append-none (map (λ comment. found_nowhere (Unsettled comment)) f.unsettled) _ e7.1 in
     let none : f.lossy ≡ [] = map-none (λ source. found_nowhere (LossySource f.version source)) f.lossy v.0 in
     record {
       lossy = none;
@@ -311,7 +314,8 @@ told-nothing text l f is e =
           (λ k c. misplaced-dependency-there l.packages k ((is.misplaced_dependencies.told k.0 k.1).0 c))
           (subst (λ ps. filter_map (misplaced_dependency_at ps) f.misplaced_dependencies ≡ []) here o.1);
       is_kept = format-none f.is_kept f.version v.1;
-      other_line = line-none f.other_line e7.1;
+      unsettled = map-none (λ comment. found_nowhere (Unsettled comment)) f.unsettled w.0;
+      other_line = line-none f.other_line w.1;
     }
 
 nothing-told : (f : FindingsData) → HasNoFindings f → placed_told f ≡ []
@@ -331,7 +335,7 @@ nothing-told f e =
     ++ ((filter_map (misplaced_at f.packages) (e.misplaced i)
     ++ filter_map (misplaced_dependency_at f.packages) (e.misplaced_dependencies i))
     ++ ((map (λ source. found_nowhere (LossySource f.version source)) (e.lossy i) ++ told_of_format (e.is_kept i) f.version)
-    ++ option_to_list (option_map (λ line. found_nowhere (OtherLine line)) (e.other_line i))))))))))
+    ++ (map (λ comment. found_nowhere (Unsettled comment)) (e.unsettled i) ++ option_to_list (option_map (λ line. found_nowhere (OtherLine line)) (e.other_line i)))))))))))
     ∙ ap (λ fs. fs ++ []) (no-orphans f.has_workspace f.packages)
 
 pub none_told_if_empty : NoneToldIfEmpty

@@ -7,7 +7,7 @@ use Rattle.cargo_lock_check.specs.Finding.{LockfileFindingData, LostDependency, 
 use Rattle.cargo_lock_check.specs.Finding.{RepeatedDependency, BadName, Alike, LookAlike, Respelt}
 use Rattle.cargo_lock_check.specs.Finding.{UserInfo, NoRoot, Orphan, NoChecksum, NoChecksums, StaleChecksum}
 use Rattle.cargo_lock_check.specs.Finding.{Misplaced, MisplacedDependency, LossySource, NotKept}
-use Rattle.cargo_lock_check.specs.Finding.{OtherLine, lockfile_finding_line}
+use Rattle.cargo_lock_check.specs.Finding.{OtherLine, Unsettled, lockfile_finding_line}
 use Rattle.cargo_lock_check.specs.Findings.{PlacedFindingData}
 use Rattle.cargo_lock_display.specs.File.{FileData, list_document}
 use Rattle.cargo_lock_display.specs.PackageJson.{dependency_json, package_json, package_or_null}
@@ -33,6 +33,7 @@ lockfile_finding_kind (Misplaced p next) = codes "misplaced"
 lockfile_finding_kind (MisplacedDependency p d next) = codes "misplaced-dependency"
 lockfile_finding_kind (LossySource version text) = codes "lossy-source"
 lockfile_finding_kind (NotKept version) = codes "not-kept"
+lockfile_finding_kind (Unsettled comment) = codes "unsettled"
 lockfile_finding_kind (OtherLine line) = codes "other-line"
 
 -- the number of the line of the package at a place, if there is a place, and it is known
@@ -41,6 +42,7 @@ line_of_place lines = option_and_then (line_number_at lines)
 
 -- the number of the line to which a finding refers by itself, or else that of the package at a place
 abbrev pub finding_line_by : List (Option ℕ) → Option ℕ → LockfileFindingData → Option ℕ
+finding_line_by lines place (Unsettled comment) = Some comment.number
 finding_line_by lines place (OtherLine line) = Some line.number
 finding_line_by lines place other = line_of_place lines place
 

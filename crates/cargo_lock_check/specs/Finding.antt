@@ -14,8 +14,9 @@ use Rattle.cargo_lock_references.specs.Format.{number_of}
 use Rattle.cargo_lock_display.specs.Line.{dependency_shown, package_text, version_shown}
 use Rattle.cargo_lock_flaws.specs.Names.{is_cargo_name}
 use Rattle.cargo_lock_check.specs.declared.finding.Finding.{Finding}
-use Rattle.cargo_lock_check.specs.declared.finding.Finding.TheVariants.{LostDependency as LostDependencyAt, Twice as TwiceAt, RepeatedDependency as RepeatedDependencyAt, BadName as BadNameAt, Alike as AlikeAt, LookAlike as LookAlikeAt, Respelt as RespeltAt, UserInfo as UserInfoAt, NoRoot as NoRootAt, Orphan as OrphanAt, NoChecksum as NoChecksumAt, NoChecksums as NoChecksumsAt, StaleChecksum as StaleChecksumAt, Misplaced as MisplacedAt, MisplacedDependency as MisplacedDependencyAt, LossySource as LossySourceAt, NotKept as NotKeptAt, OtherLine as OtherLineAt}
+use Rattle.cargo_lock_check.specs.declared.finding.Finding.TheVariants.{LostDependency as LostDependencyAt, Twice as TwiceAt, RepeatedDependency as RepeatedDependencyAt, BadName as BadNameAt, Alike as AlikeAt, LookAlike as LookAlikeAt, Respelt as RespeltAt, UserInfo as UserInfoAt, NoRoot as NoRootAt, Orphan as OrphanAt, NoChecksum as NoChecksumAt, NoChecksums as NoChecksumsAt, StaleChecksum as StaleChecksumAt, Misplaced as MisplacedAt, MisplacedDependency as MisplacedDependencyAt, LossySource as LossySourceAt, NotKept as NotKeptAt, Unsettled as UnsettledAt, OtherLine as OtherLineAt}
 use Rattle.cargo_lock_check.specs.Text.{OtherLineData}
+use Rattle.cargo_lock_layout.specs.Conflicts.{ConflictCommentData}
 
 -- one thing that is wrong
 pub data LockfileFindingData : Type 0 where
@@ -36,6 +37,7 @@ pub data LockfileFindingData : Type 0 where
   MisplacedDependency : PackageData → Identity → Identity → LockfileFindingData
   LossySource : ResolveVersion → List ℕ → LockfileFindingData
   NotKept : ResolveVersion → LockfileFindingData
+  Unsettled : ConflictCommentData → LockfileFindingData
   OtherLine : OtherLineData → LockfileFindingData
 
 -- the finding with its references resolved to what they refer to
@@ -57,6 +59,7 @@ lockfile_finding_of (MisplacedAt p next) = Misplaced p.now next.now
 lockfile_finding_of (MisplacedDependencyAt p d next) = MisplacedDependency p.now d.now next.now
 lockfile_finding_of (LossySourceAt version text) = LossySource version text.now
 lockfile_finding_of (NotKeptAt version) = NotKept version
+lockfile_finding_of (UnsettledAt comment) = Unsettled comment.now
 lockfile_finding_of (OtherLineAt line) = OtherLine line.now
 
 -- ---- lines
@@ -111,6 +114,8 @@ lockfile_finding_line (LossySource version text) = codes "format: V" ++ (decimal
     ++ codes "`, and Cargo takes whatever it names now; V4 keeps it")))
 lockfile_finding_line (NotKept version) =
     codes "format: V" ++ (decimal (number_of version) ++ codes " does not keep this lockfile")
+lockfile_finding_line (Unsettled comment) = codes "conflict: line " ++ (decimal comment.number
+    ++ (codes " is about a conflict of a merge: `" ++ (shown Quoted comment.text ++ codes "`")))
 lockfile_finding_line (OtherLine line) = codes "text: line " ++ (decimal line.number
     ++ (codes " is not as Cargo writes it: `" ++ (shown Quoted line.written
     ++ (codes "` for `" ++ (shown Quoted line.wanted ++ codes "`")))))

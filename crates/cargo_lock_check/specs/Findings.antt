@@ -17,7 +17,7 @@ use Rattle.cargo_lock_check.specs.Finding.{Alike, BadName, LockfileFindingData, 
 use Rattle.cargo_lock_check.specs.Finding.{LossySource, LostDependency, Misplaced}
 use Rattle.cargo_lock_check.specs.Finding.{MisplacedDependency, NoChecksum, NoChecksums, NoRoot}
 use Rattle.cargo_lock_check.specs.Finding.{NotKept, Orphan, OtherLine, RepeatedDependency}
-use Rattle.cargo_lock_check.specs.Finding.{Respelt, StaleChecksum, Twice, UserInfo}
+use Rattle.cargo_lock_check.specs.Finding.{Respelt, StaleChecksum, Twice, Unsettled, UserInfo}
 use Rattle.cargo_lock_check.specs.Finding.{lockfile_finding_of}
 use Rattle.cargo_lock_check.specs.declared.findings.DependencyFlaw.{DependencyFlaw}
 use Rattle.cargo_lock_check.specs.declared.findings.DependencyFlaw.TheVariants as dependency_flaw
@@ -37,6 +37,7 @@ use Rattle.cargo_lock_flaws.specs.Reach.{IsOrphan}
 use Rattle.cargo_lock_flaws.specs.Sources.{HasUserInfo, IsFromAt, IsLookAlike, IsRespelt}
 use Rattle.cargo_lock_flaws.specs.Stale.{stale_keys}
 use Rattle.cargo_lock_check.specs.Text.{AreSameLines, IsFirstOther, OtherLineData}
+use Rattle.cargo_lock_layout.specs.Conflicts.{ConflictCommentData, conflict_comments}
 use Rattle.cargo_lock_layout.specs.Lines.{cargo_lines}
 
 -- what is found, with the packages and the format to which it refers
@@ -60,6 +61,7 @@ pub record FindingsData : Type 0 where
   pub misplaced : List ℕ
   pub misplaced_dependencies : List (ℕ × ℕ)
   pub is_kept : Bool
+  pub unsettled : List ConflictCommentData
   pub other_line : Option OtherLineData
 
 -- ---- what is looked for
@@ -181,6 +183,7 @@ pub record AreFindings (text : List ℕ) (l : LockfileData) (f : FindingsData) :
   pub misplaced_dependencies : AreDependencies (IsDependencyMisplacedAt l.packages)
       f.misplaced_dependencies
   pub is_kept : IsAskedUnless f.lossy (IsTrue f.is_kept ↔ Survives l l.version) (f.is_kept ≡ true)
+  pub unsettled : f.unsettled ≡ conflict_comments text
   pub other_line : IsAskedUnless f.lossy (IsOtherLine text l f.other_line) (f.other_line ≡ None)
 
 -- no name and no source is found that may mislead a reader
@@ -205,6 +208,7 @@ pub record HasNoFindings (f : FindingsData) : Type 0 where
   pub misplaced : f.misplaced ≡ []
   pub misplaced_dependencies : f.misplaced_dependencies ≡ []
   pub is_kept : f.is_kept ≡ true
+  pub unsettled : f.unsettled ≡ []
   pub other_line : f.other_line ≡ None
 
 -- ---- what is reported, in this order
@@ -323,6 +327,11 @@ abbrev pub told_of_order : FindingsData → List PlacedFindingData
 told_of_order f = filter_map (misplaced_at f.packages) f.misplaced
     ++ filter_map (misplaced_dependency_at f.packages) f.misplaced_dependencies
 
+-- each comment about a conflict, and the first line that is not as Cargo writes it
+abbrev pub told_of_text : FindingsData → List PlacedFindingData
+told_of_text f = map (λ comment. found_nowhere (Unsettled comment)) f.unsettled
+    ++ option_to_list (option_map (λ line. found_nowhere (OtherLine line)) f.other_line)
+
 -- each source that the format loses, and a format that does not keep its lockfile
 abbrev pub told_of_formats : FindingsData → List PlacedFindingData
 told_of_formats f = map (λ source. found_nowhere (LossySource f.version source)) f.lossy
@@ -338,7 +347,7 @@ placed_told f = filter_map (dependency_at LostDependency f.packages) f.lost_depe
     ++ (map (λ key. found_nowhere (StaleChecksum key)) f.stale
     ++ (told_of_order f
     ++ (told_of_formats f
-    ++ option_to_list (option_map (λ line. found_nowhere (OtherLine line)) f.other_line))))))))
+    ++ told_of_text f)))))))
 
 -- each finding
 abbrev pub told_of : FindingsData → List LockfileFindingData

@@ -13,6 +13,7 @@ use Rattle.cargo_lock_flaws.specs.Packages.{IsMisplaced, IsTwice, IsUnchecked, I
 use Rattle.cargo_lock_flaws.specs.Reach.{IsOrphan}
 use Rattle.cargo_lock_flaws.specs.Sources.{HasUserInfo, IsFromAt, IsLookAlike, IsRespelt}
 use Rattle.cargo_lock_flaws.specs.Stale.{IsStale}
+use Rattle.cargo_lock_layout.specs.Conflicts.{conflict_comments}
 
 -- The format keeps the tag, branch or revision of each source. A package matches each dependency.
 -- No package has the identity of an earlier one, lists a dependency more than once, has a name that
@@ -20,7 +21,7 @@ use Rattle.cargo_lock_flaws.specs.Stale.{IsStale}
 -- takes for crates.io and writes otherwise, is from a source with user info, lacks a checksum that
 -- others have, or is out of order, and neither is a dependency. Each registry on the network has a package with a checksum, and each checksum in the
 -- metadata is of a package. No two packages have different names that are the same to crates.io.
--- The lockfile survives its format. The packages of the workspace lead to each package, and a
+-- The lockfile survives its format. No comment at the top is about a conflict. The packages of the workspace lead to each package, and a
 -- separate root is one of them. If there is no separate root, each line of the text is as Cargo
 -- writes it.
 pub record IsSoundLockfile (text : List ℕ) (l : LockfileData) : Type 0 where
@@ -40,6 +41,7 @@ pub record IsSoundLockfile (text : List ℕ) (l : LockfileData) : Type 0 where
   pub ordered : (k : ℕ) → ¬ IsMisplaced l.packages k
   pub listed_in_order : (place at : ℕ) → ¬ IsDependencyMisplacedAt l.packages place at
   pub kept : Survives l l.version
+  pub settled : conflict_comments text ≡ []
   pub written : l.root ≡ None → IsWrittenByCargo text l
 
 -- ---- laws

@@ -85,6 +85,7 @@ pub(crate) fn kind(finding: &Finding<'_>) -> &'static str
         Finding::MisplacedDependency(_, _, _) => "misplaced-dependency",
         Finding::LossySource(_, _) => "lossy-source",
         Finding::NotKept(_) => "not-kept",
+        Finding::Unsettled(_) => "unsettled",
         Finding::OtherLine(_) => "other-line",
     }
 }

@@ -8,6 +8,7 @@ ghost use Rattle.cargo_lock_check.specs.Finding.{lockfile_finding_line};
 use crate::text::OtherLine;
 use cargo_lock_display::{DependencyText, PackageText};
 use cargo_lock_flaws::is_cargo_name;
+use cargo_lock_layout::conflicts::ConflictComment;
 use cargo_lock_parts::dependency::Dependency;
 use cargo_lock_parts::package::{Package, SourceId};
 use cargo_lock_references::{MetadataKey, ResolveVersion};
@@ -96,6 +97,10 @@ pub enum Finding<'a> {
     /// `format: V4 does not keep this lockfile`.
     NotKept(ResolveVersion),
 
+    /// A comment at the top of the text is about a conflict, as `merge --favor` writes them:
+    /// ``conflict: line 3 is about a conflict of a merge: `LINE` ``.
+    Unsettled(&'a ConflictComment),
+
     /// The first line that is not as Cargo writes it:
     /// ``text: line 17 is not as Cargo writes it: `WRITTEN` for `WANTED` ``.
     OtherLine(&'a OtherLine),
@@ -155,6 +160,7 @@ impl fmt::Display for Finding<'_> {
                 let number = u32::from(*version);
                 write!(f, "format: V{number} does not keep this lockfile")
             }
+            Finding::Unsettled(comment) => write_unsettled(comment, f),
             Finding::OtherLine(line) => write!(f, "{line}"),
         }
     }
@@ -298,6 +304,21 @@ fn write_lossy<W: fmt::Write>(
         f,
         "format: V{number} loses the tag, branch or revision of `{text}`, \
         and Cargo takes whatever it names now; V4 keeps it"
+    )
+}
+
+fn write_unsettled<W: fmt::Write>(
+    comment: &ConflictComment,
+    f: &mut fmt::Formatter<W>,
+) -> fmt::Result
+    ensures { DisplaysOnOk W.write_str_gives f.old result
+        (Some (lockfile_finding_line (told.Unsettled comment.now))) f.new }
+{
+    let number = comment.number;
+    let text = Quoted(&comment.text);
+    write!(
+        f,
+        "conflict: line {number} is about a conflict of a merge: `{text}`"
     )
 }
 

@@ -23,13 +23,15 @@ ghost use Rattle.cargo_lock_flaws.specs.Sources.{HasUserInfo, IsFromAt, IsLookAl
 
 use crate::asked::TextFindings;
 use crate::finding::Finding;
-use crate::placed::PlacedFinding;
+use crate::placed::{PlacedFinding, add_unsettled, other_line_finding};
 use crate::text::OtherLine;
 use cargo_lock::Lockfile;
 use cargo_lock_flaws::{
     badly_named_packages, look_alike_sources, misplaced_dependencies, misplaced_packages,
     packages_alike, packages_twice, repeated_dependencies, respelt_sources, sources_with_user_info,
 };
+use cargo_lock_layout::conflict_comments;
+use cargo_lock_layout::conflicts::ConflictComment;
 use cargo_lock_parts::error::Result;
 use cargo_lock_parts::package::Package;
 use cargo_lock_references::{MetadataKey, ResolveVersion};
@@ -119,6 +121,10 @@ pub struct Findings<'a> {
     /// Whether the lockfile survives its format (see `Lockfile::survives`).
     pub is_kept: bool,
 
+    /// The comments at the top of the text that are about conflicts, as a merge in which a side is
+    /// favoured has them. Cargo keeps them, and a merge drops them.
+    pub unsettled: Vec<ConflictComment>,
+
     /// The first line of the text that is not as Cargo writes it. As Cargo does, this compares
     /// lines without their ends, so `\r\n` is the same as `\n`. The comments after Cargo's own two
     /// stay, as Cargo keeps them, and empty lines at the end are ignored. In V1 and V2 Cargo's own
@@ -160,6 +166,7 @@ impl<'a> Model for Findings<'a> {
       misplaced = f.misplaced.items;
       misplaced_dependencies = f.misplaced_dependencies.items;
       is_kept = f.is_kept;
+      unsettled = f.unsettled.items;
       other_line = f.other_line;
     } };
 }
@@ -174,7 +181,7 @@ struct ListPlaces {
 }
 
 impl<'a> Findings<'a> {
-    ghost use Rattle.cargo_lock_check.specs.Findings.{HasNoFindings, HasNothingMisleading, placed_told, told_of, told_of_checksums, told_of_formats, told_of_misleading, told_of_order, told_of_twice};
+    ghost use Rattle.cargo_lock_check.specs.Findings.{HasNoFindings, HasNothingMisleading, placed_told, told_of, told_of_checksums, told_of_formats, told_of_misleading, told_of_order, told_of_text, told_of_twice};
 
     /// What is wrong with a lockfile that was read from this text. The one error is `Memory`.
     pub fn of(alloc: Global, text: &str, lockfile: &'a Lockfile) -> Result<Findings<'a>>
@@ -183,6 +190,7 @@ impl<'a> Findings<'a> {
     {
         let lists = ListPlaces::of(alloc, &lockfile.packages)?;
         let misleading = MisleadingPlaces::of(alloc, &lockfile.packages)?;
+        let unsettled = conflict_comments(alloc, text)?;
         let TextFindings {
             checksums,
             lossy,
@@ -208,6 +216,7 @@ impl<'a> Findings<'a> {
             misplaced: lists.misplaced,
             misplaced_dependencies: lists.misplaced_dependencies,
             is_kept: asked.is_kept,
+            unsettled,
             other_line: asked.other_line,
         })
     }
@@ -228,6 +237,7 @@ impl<'a> Findings<'a> {
             && self.misplaced.is_empty()
             && self.misplaced_dependencies.is_empty()
             && self.is_kept
+            && self.unsettled.is_empty()
             && self.other_line.is_none()
     }
 
@@ -247,8 +257,8 @@ impl<'a> Findings<'a> {
     /// sources that look like crates.io, sources that Cargo takes for crates.io and writes
     /// otherwise, sources with user info, orphans, packages without a checksum, registries without
     /// any, stale checksums, packages and dependencies that are out of order, sources that the
-    /// format loses, the format, the text. If no package is of the workspace, that is reported in
-    /// place of the orphans. Fails when out of memory.
+    /// format loses, the format, comments about conflicts, the text. If no package is of the
+    /// workspace, that is reported in place of the orphans. Fails when out of memory.
     pub fn all<'s>(&'s self, alloc: Global) -> std::result::Result<Vec<Finding<'s>>, AllocError>
         ensures { IfOk result (λ all. map lockfile_finding_of all.items ≡ told_of self.now) }
     {
@@ -282,7 +292,7 @@ impl<'a> Findings<'a> {
         add_stale(&mut all, &self.stale)?;
         self.add_order(&mut all)?;
         self.add_formats(&mut all)?;
-        add_some(&mut all, other_line_finding(&self.other_line))?;
+        self.add_text(&mut all)?;
         Ok(all)
     }
 
@@ -335,6 +345,19 @@ impl<'a> Findings<'a> {
     {
         add_lossy(all, &self.lossy, self.version)?;
         add_format(all, self.is_kept, self.version)?;
+        Ok(())
+    }
+
+    // Adds the comments about conflicts, and the first line that is not as Cargo writes it.
+    fn add_text<'s>(
+        &'s self,
+        all: &mut Vec<PlacedFinding<'s>>,
+    ) -> std::result::Result<(), AllocError>
+        ensures { OnOk result (map placed_finding_of all.new.items
+            ≡ map placed_finding_of all.old.items ++ told_of_text self.now) }
+    {
+        add_unsettled(all, &self.unsettled)?;
+        add_some(all, other_line_finding(&self.other_line))?;
         Ok(())
     }
 
@@ -758,14 +781,4 @@ fn add_format(
         all.push(PlacedFinding::nowhere(Finding::NotKept(version)))?;
     }
     Ok(())
-}
-
-fn other_line_finding<'a>(line: &'a Option<OtherLine>) -> Option<PlacedFinding<'a>>
-    ensures { option_map placed_finding_of result
-        ≡ option_map (λ l. found_nowhere (told.OtherLine l)) line.now }
-{
-    match line {
-        Some(line) => Some(PlacedFinding::nowhere(Finding::OtherLine(line))),
-        None => None,
-    }
 }

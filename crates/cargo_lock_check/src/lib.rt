@@ -4,8 +4,8 @@
 //! another one, a source with a user name or a password, a package that no package of the workspace
 //! leads to, a package without the checksum that others of its registry have, a registry without
 //! checksums, a checksum of no package, packages or dependencies out of Cargo's order, a source
-//! whose tag, branch or revision the format loses, a format that does not keep the lockfile, and
-//! the first line that is not as Cargo writes it.
+//! whose tag, branch or revision the format loses, a format that does not keep the lockfile, a
+//! comment about a conflict of a merge, and the first line that is not as Cargo writes it.
 //!
 //! ```
 //! let lockfile = Lockfile::from_str(rt.alloc(), text)?;
@@ -44,4 +44,5 @@ pub use crate::findings::Findings;
 pub use crate::placed::PlacedFinding;
 pub use crate::reporting::reported_findings;
 pub use crate::text::OtherLine;
+pub use cargo_lock_layout::conflicts::ConflictComment;
 pub use cargo_lock_order::{dependency_order, package_order};

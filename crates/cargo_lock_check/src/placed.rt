@@ -1,11 +1,14 @@
 //! Findings, each with the place of its package, and at the line of that package.
 
-ghost use Rattle.std.specs.Prelude.{◌≡◌};
+ghost use Rattle.std.specs.Prelude.{◌≡◌, ◌++◌, OnOk, map, option_map};
 ghost use Rattle.cargo_lock_check.specs.Finding.{lockfile_finding_of};
+ghost use Rattle.cargo_lock_check.specs.Finding as told;
 ghost use Rattle.cargo_lock_check.specs.Findings.{found_at_place, found_nowhere, placed_finding_of};
 
 use crate::document::write_finding;
 use crate::finding::Finding;
+use crate::text::OtherLine;
+use cargo_lock_layout::conflicts::ConflictComment;
 use cargo_lock_location::{Lined, PackageLines};
 use printing::JsonWriter;
 use std::alloc::AllocError;
@@ -75,6 +78,7 @@ impl Lined for PlacedFinding<'_> {
 
     fn line(&self, lines: &PackageLines<'_>) -> Option<usize> {
         match self.finding {
+            Finding::Unsettled(comment) => Some(comment.number),
             Finding::OtherLine(line) => Some(line.number),
             _ => self.line_of_place(lines),
         }
@@ -96,5 +100,31 @@ impl<'a> PlacedFinding<'a> {
             Some(place) => lines.at(place),
             None => None,
         }
+    }
+}
+
+/// Adds a finding for each of these comments.
+pub(crate) fn add_unsettled<'a>(
+    all: &mut Vec<PlacedFinding<'a>>,
+    comments: &'a [ConflictComment],
+) -> std::result::Result<(), AllocError>
+    ensures { OnOk result (map placed_finding_of all.new.items
+        ≡ map placed_finding_of all.old.items
+        ++ map (λ comment. found_nowhere (told.Unsettled comment)) comments.now) }
+{
+    for comment in comments {
+        all.push(PlacedFinding::nowhere(Finding::Unsettled(comment)))?;
+    }
+    Ok(())
+}
+
+/// The finding of this line, if there is one.
+pub(crate) fn other_line_finding<'a>(line: &'a Option<OtherLine>) -> Option<PlacedFinding<'a>>
+    ensures { option_map placed_finding_of result
+        ≡ option_map (λ l. found_nowhere (told.OtherLine l)) line.now }
+{
+    match line {
+        Some(line) => Some(PlacedFinding::nowhere(Finding::OtherLine(line))),
+        None => None,
     }
 }

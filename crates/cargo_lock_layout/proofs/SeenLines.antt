@@ -1,8 +1,9 @@
 -- Lines of a text behind references.
-use Rattle.std.proofs.Common.{◌≡◌, ◌<◌, ◌+◌, ◌-◌, ◌++◌, ℕ, Bool, true, false, cond, List, [], ◌∷◌, length, get_or, drop, filter, map, take, refl, sym, ap, ◌∙◌, append_assoc}
+use Rattle.std.proofs.Common.{◌≡◌, ◌<◌, ◌+◌, ◌-◌, ◌++◌, ℕ, Bool, true, false, codes, cond, List, [], ◌∷◌, length, get_or, drop, filter, map, take, refl, sym, ap, ◌∙◌, append_assoc}
 use Rattle.std.specs.List.{dedup, dedup_from, take_while}
 use Rattle.std.specs.Prelude.{bytes_eq, not}
 use Rattle.std.specs.Borrow.{Bor}
+use Rattle.cargo_lock_layout.specs.Conflicts.{ConflictCommentData, commented, is_conflict_comment, numbered_conflicts, others_than_conflicts}
 use Rattle.cargo_lock_layout.specs.Lines.{is_empty, line_or_empty, others_than, without_empty_end}
 use Rattle.cargo_lock_lines.specs.Layout.{join_lines}
 use Rattle.std.proofs.lemmas.List.{length-map}
@@ -93,3 +94,55 @@ cut-empty lines end is empty =
     let place : length seen - 1 ≡ end = rw length-map (sym is) in
     sym (take-map (λ (b : Bor (List ℕ)). b.now) end lines)
     ∙ sym (ap (λ k. cond (is_empty (line_or_empty seen k)) (take k seen) seen) place ∙ ap (λ b. cond b (take end seen) seen) empty)
+
+-- ---- comments about conflicts
+
+settled-one : (line : List ℕ) (rest : List (List ℕ)) → others_than_conflicts (line ∷ rest) ≡ others_than_conflicts (line ∷ []) ++ others_than_conflicts rest
+settled-one line rest = filter-one (λ l. not (is_conflict_comment l)) line rest
+
+-- the lines that are no such comments, from one line on
+pub settled-more : (lines : List (Bor (List ℕ))) (i : ℕ) (d : Bor (List ℕ)) → i < length lines
+    → others_than_conflicts (map (λ (b : Bor (List ℕ)). b.now) (drop i lines))
+    ≡ others_than_conflicts ((get_or lines i d).now ∷ []) ++ others_than_conflicts (map (λ (b : Bor (List ℕ)). b.now) (drop (i + 1) lines))
+settled-more lines i d lt =
+    at_drop_more (λ ls. others_than_conflicts (map (λ (b : Bor (List ℕ)). b.now) ls)) lines i d lt
+    ∙ settled-one (get_or lines i d).now (map (λ (b : Bor (List ℕ)). b.now) (drop (i + 1) lines))
+
+-- the comments of one line come before those of the others
+numbered-one : (n : ℕ) (line : List ℕ) (rest : List (List ℕ)) → numbered_conflicts n (line ∷ rest) ≡ numbered_conflicts n (line ∷ []) ++ numbered_conflicts (n + 1) rest
+numbered-one n line rest = go (is_conflict_comment line)
+  where
+    this : ConflictCommentData
+    this = record { number = n; text = line }
+    go : (b : Bool) → cond b (this ∷ numbered_conflicts (n + 1) rest) (numbered_conflicts (n + 1) rest)
+        ≡ cond b (this ∷ []) [] ++ numbered_conflicts (n + 1) rest
+    go true = refl
+    go false = refl
+
+pub numbered-more : (n : ℕ) (lines : List (List ℕ)) (i : ℕ) → i < length lines
+    → numbered_conflicts n (drop i lines) ≡ numbered_conflicts n (line_or_empty lines i ∷ []) ++ numbered_conflicts (n + 1) (drop (i + 1) lines)
+numbered-more n lines i lt = at_drop_more (numbered_conflicts n) lines i [] lt ∙ numbered-one n (line_or_empty lines i) (drop (i + 1) lines)
+
+-- one more line as a comment
+pub commented-one : (lines : List (Bor (List ℕ))) (i : ℕ) (d : Bor (List ℕ)) (old marked lined new : List ℕ) → i < length lines
+    → marked ≡ old ++ codes "# " → lined ≡ marked ++ (get_or lines i d).now → new ≡ lined ++ 10 ∷ []
+    → old ++ commented (map (λ (b : Bor (List ℕ)). b.now) (drop i lines)) ≡ commented (map (λ (b : Bor (List ℕ)). b.now) lines)
+    → new ++ commented (map (λ (b : Bor (List ℕ)). b.now) (drop (i + 1) lines)) ≡ commented (map (λ (b : Bor (List ℕ)). b.now) lines)
+commented-one lines i d old marked lined new lt mark put ends before =
+    let line = (get_or lines i d).now in
+    let rest = commented (map (λ (b : Bor (List ℕ)). b.now) (drop (i + 1) lines)) in
+    let is : new ≡ ((old ++ codes "# ") ++ line) ++ 10 ∷ [] = ends ∙ ap (λ t. t ++ 10 ∷ []) (put ∙ ap (λ t. t ++ line) mark) in
+    let more : commented (map (λ (b : Bor (List ℕ)). b.now) (drop i lines)) ≡ ((codes "# " ++ line) ++ 10 ∷ []) ++ rest
+    = at_drop_more (λ ls. commented (map (λ (b : Bor (List ℕ)). b.now) ls)) lines i d lt in
+    let joined : (((old ++ codes "# ") ++ line) ++ 10 ∷ []) ++ rest ≡ old ++ (((codes "# " ++ line) ++ 10 ∷ []) ++ rest) = simp append_assoc in
+    ap (λ t. t ++ rest) is ∙ joined ∙ ap (λ t. old ++ t) (sym more) ∙ before
+
+-- one more line among those with numbers
+pub numbered-next : (n : ℕ) (lines : List (List ℕ)) (i : ℕ) (line : List ℕ) (old new all : List ConflictCommentData) → i < length lines → line ≡ line_or_empty lines i
+    → new ≡ old ++ numbered_conflicts n (line ∷ []) → old ++ numbered_conflicts n (drop i lines) ≡ all
+    → new ++ numbered_conflicts (n + 1) (drop (i + 1) lines) ≡ all
+numbered-next n lines i line old new all lt is grows before =
+    let rest = numbered_conflicts (n + 1) (drop (i + 1) lines) in
+    ap (λ xs. xs ++ rest) grows ∙ append_assoc old (numbered_conflicts n (line ∷ [])) rest
+    ∙ ap (λ l. old ++ (numbered_conflicts n (l ∷ []) ++ rest)) is
+    ∙ ap (λ xs. old ++ xs) (sym (numbered-more n lines i lt)) ∙ before

@@ -56,8 +56,8 @@ pub fn kept_comments<'a>(alloc: Global, written: &[&'a str]) -> Result<Vec<&'a s
     Ok(kept)
 }
 
-// Adds the comments at the beginning.
-fn add_comments<'a>(all: &mut Vec<&'a str>, lines: &[&'a str]) -> Result<(), AllocError>
+/// Adds the comments at the beginning.
+pub(crate) fn add_comments<'a>(all: &mut Vec<&'a str>, lines: &[&'a str]) -> Result<(), AllocError>
     ensures { OnOk result (map (λ line. line.now) all.new.items
         ≡ map (λ line. line.now) all.old.items ++ take_while is_comment (map (λ line. line.now) lines.now)) }
 {

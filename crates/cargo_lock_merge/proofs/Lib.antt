@@ -15,3 +15,6 @@ pub mod DocumentDepth
 pub mod Documents
 mod PuttingSpellings
 pub mod FavouredLists
+mod FavouringValues
+mod FavouringLockfiles
+mod FavouringLaws

@@ -25,6 +25,8 @@ use Rattle.cargo_lock_merge_core.specs.declared.conflicts.Conflict as merging
 use Rattle.cargo_lock_merge_core.specs.declared.conflicts.Kind.{Kind}
 use Rattle.cargo_lock_merge_core.specs.declared.conflicts.Kind.TheVariants as kind
 use Rattle.cargo_lock_merge_core.specs.declared.moved.Reference.{Reference}
+use Rattle.cargo_lock_merge_core.specs.declared.rule3.Side.{Side}
+use Rattle.cargo_lock_merge_core.specs.declared.rule3.Side.TheVariants.{Ours, Theirs}
 use Rattle.cargo_lock_merge_core.specs.Conflicts.{now_if}
 use Rattle.cargo_lock_parts.specs.Identity.{PackageData, identity_of}
 use Rattle.cargo_lock_references.specs.declared.version.ResolveVersion.{ResolveVersion}
@@ -228,10 +230,30 @@ abbrev pub conflicts_json : LockfileConflicts → Json
 conflicts_json c = merge_document (codes "conflicts") None (map conflict_json (conflicts_data c))
     [] [] [] None
 
+-- of a merge in which a side is favoured, since the sides are in conflict about this
+abbrev pub favoured_json : MergedComments → LockfileConflicts → Remarks → Json
+favoured_json comments c r = merge_document (codes "favoured") None
+    (map conflict_json (conflicts_data c)) (map moved_json r.moved.items)
+    (map notice_json (filter is_choice r.notices.items))
+    (map notice_json (filter is_loss r.notices.items)) (Some (comments_word comments))
+
+-- of what is refused for this reason, with these conflicts
+abbrev pub refused_with : List ℕ → List Json → Json
+refused_with message conflicts = merge_document (codes "refused") (Some message) conflicts [] [] []
+    None
+
+-- that there is no merge in which the side is favoured
+abbrev pub unfavoured_text : Side → List ℕ
+unfavoured_text Ours = codes "no merge has ours where the sides are in conflict"
+unfavoured_text Theirs = codes "no merge has theirs where the sides are in conflict"
+
+-- of sides that are in conflict about this, where it is of no use to favour this one
+abbrev pub unfavoured_json : Side → LockfileConflicts → Json
+unfavoured_json side c = refused_with (unfavoured_text side) (map conflict_json (conflicts_data c))
+
 -- of lockfiles that are not merged, and why
 abbrev pub refused_json : MergeError → Json
-refused_json error = merge_document (codes "refused") (Some (merge_error_text error)) [] [] [] []
-    None
+refused_json error = refused_with (merge_error_text error) []
 
 -- ---- as the program has them
 

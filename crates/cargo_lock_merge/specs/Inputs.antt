@@ -1,6 +1,7 @@
 -- The three lockfiles of a merge, with the comments at the top of their texts.
 use Rattle.std.specs.Prelude.{◌≡◌, ℕ, List, Option, string_bytes}
 use Rattle.cargo_lock_encoding.specs.Lockfiles.{LockfileData}
+use Rattle.cargo_lock_layout.specs.Conflicts.{without_conflicts}
 use Rattle.cargo_lock_layout.specs.Lines.{comments_of}
 use Rattle.cargo_lock_merge.specs.Comments.{AreMergedComments}
 use Rattle.cargo_lock_merge.specs.MergedLockfiles.{LockfileTriple, triple_of}
@@ -10,9 +11,11 @@ use Rattle.cargo_lock_merge.specs.declared.inputs.MergeInput.{MergeInput}
 use Rattle.cargo_lock_merge.specs.declared.inputs.MergeInputs.{MergeInputs}
 use Rattle.cargo_lock_parts.specs.Source.{Source}
 
--- the input of a lockfile and its text: the comments are those at the top of the text that Cargo keeps
+-- the input of a lockfile and its text: the comments are those at the top of the text that Cargo
+-- keeps, but those about conflicts
 abbrev pub IsInputOf : LockfileData → List ℕ → MergeInput → Type 0
-IsInputOf l text input = (input.lockfile ≡ l) × (string_bytes input.comments ≡ comments_of text)
+IsInputOf l text input = (input.lockfile ≡ l)
+    × (string_bytes input.comments ≡ without_conflicts (comments_of text))
 
 -- the spelling of a source in the merge of these
 abbrev pub spelling_among : MergeInput → MergeInput → MergeInput → Source → Option Source

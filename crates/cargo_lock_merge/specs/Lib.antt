@@ -14,8 +14,10 @@ pub mod Referring
 pub mod Spelling
 pub mod Spellings
 pub mod MergedLockfiles
+pub mod FavouredLockfiles
 pub mod Inputs
 pub mod ByPlaces
 pub mod Once
 pub mod Headline
+pub mod FavouredLaws
 pub mod Document

@@ -188,6 +188,11 @@ is_same_but_metadata = eq_of_both (eq_of_both (eq_of_both
     (on (λ l. l.root) (option_eq is_same_package)))
     (on (λ l. l.patch) is_same_patch)
 
+-- the conflicts, if these are any, are about a format
+abbrev pub HasFormatIfLost : LockfileMerge → Type 0
+HasFormatIfLost (Merged lockfile text remarks) = Unit {0}
+HasFormatIfLost (InConflict conflicts) = IsSome conflicts.format
+
 -- the error says that a text is no lockfile
 abbrev pub IsUnread : Error → Type 0
 IsUnread (Parse message) = string_bytes message ≢ too_long

@@ -15,6 +15,8 @@ use Rattle.cargo_lock_merge.specs.declared.metadata.MetadataMerge.{MetadataMerge
 use Rattle.cargo_lock_merge.specs.declared.metadata.MetadataSides.{MetadataSides}
 use Rattle.cargo_lock_merge.specs.declared.metadata.MetadataValues.{MetadataValues}
 use Rattle.cargo_lock_merge_core.specs.Rule3.{IsAgreed, IsInConflict}
+use Rattle.cargo_lock_merge_core.specs.declared.rule3.Side.{Side}
+use Rattle.cargo_lock_merge_core.specs.declared.rule3.Side.TheVariants.{Ours, Theirs}
 use Rattle.cargo_lock_parts.specs.Identity.{PackageData}
 use Rattle.cargo_lock_references.specs.Records.{Texts}
 use Rattle.cargo_lock_references.specs.declared.version.ResolveVersion.{ResolveVersion}
@@ -69,6 +71,18 @@ abbrev pub AreMetadataOf : LockfileData → LockfileData → LockfileData → Te
 AreMetadataOf b o t m = (key : List ℕ)
     → IsAgreed (own_metadata b key) (own_metadata o key) (own_metadata t key) (get m key)
 
+-- ---- what a merge has in which a side is favoured
+
+-- that of this side, of ours and theirs
+abbrev pub of_side : {X : Type 0} → Side → X → X → X
+of_side Ours o t = o
+of_side Theirs o t = t
+
+-- the value on which the three agree, or that of the side, where both changed it, each to another
+-- one
+abbrev pub IsFavouredValue : {X : Type 0} → Side → X → X → X → X → Type 0
+IsFavouredValue side b o t m = IsAgreed b o t m ⊎ (IsInConflict b o t × (m ≡ of_side side o t))
+
 -- ---- as the program has them
 
 -- the value at a key
@@ -95,6 +109,21 @@ IsReadyKey s m key = IsMergedKey s m key
 -- two maps have the same value at the key
 abbrev pub IsSameAt : {X : Type 0} → BTreeMap (List ℕ) X → BTreeMap (List ℕ) X → List ℕ → Type 0
 IsSameAt one other key = value_at_key one key ≡ value_at_key other key
+
+-- two maps have the same values but at the key
+abbrev pub IsSameButAt : {X : Type 0} → List ℕ → BTreeMap (List ℕ) X → BTreeMap (List ℕ) X → Type 0
+IsSameButAt key old new = (q : List ℕ) → q ≢ key → IsSameAt new old q
+
+-- the value at a key is that of the side, if there is a conflict
+abbrev pub favoured_at : Side → Option MetadataConflict → Option (List ℕ) → Option (List ℕ)
+favoured_at side None m = m
+favoured_at side (Some c) m = of_side side c.ours c.theirs
+
+-- the new value at the key is that of the side, or the old one, if there is no conflict
+abbrev pub IsFavouredAt : Side → BTreeMap (List ℕ) MetadataConflict → BTreeMap (List ℕ) (List ℕ)
+    → BTreeMap (List ℕ) (List ℕ) → List ℕ → Type 0
+IsFavouredAt side conflicts old new key = value_at_key new key
+    ≡ favoured_at side (value_at_key conflicts key) (value_at_key old key)
 
 -- nothing is changed but at the key
 pub record ChangesAt (key : List ℕ) (old new : MetadataMerge) : Type 0 where

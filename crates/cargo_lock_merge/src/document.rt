@@ -11,6 +11,7 @@ ghost use Rattle.cargo_lock_merge.specs.Document.{conflicts_data, is_choice, ite
 ghost use Rattle.cargo_lock_merge.specs.Document.{matter_of, name_or_null, notice_json, place_kind};
 ghost use Rattle.cargo_lock_merge.specs.Document.{pair_json, pair_or_null, side_or_both};
 ghost use Rattle.cargo_lock_merge.specs.Document.{sides_without, unchecked_json, version_or_null};
+ghost use Rattle.cargo_lock_merge.specs.Document.{unfavoured_text};
 ghost use Rattle.cargo_lock_merge.specs.Document as spec;
 ghost use Rattle.cargo_lock_merge.specs.Words.{bare_text};
 ghost use Rattle.printing.specs.Json.{Adds, IsJsonText};
@@ -29,6 +30,7 @@ use cargo_lock_display::{begin_identity, put_origin, put_package_or_null};
 use cargo_lock_merge_core::commits::SourceCommits;
 use cargo_lock_merge_core::conflicts::{Conflict as Matter, Kind};
 use cargo_lock_merge_core::moved::Reference;
+use cargo_lock_merge_core::rule3::Side;
 use cargo_lock_parts::package::{Package, SourceId};
 use printing::{JsonWriter, ToJson, json_line, write_array, write_text_or_null};
 use std::alloc::{AllocError, Global};
@@ -94,6 +96,73 @@ pub fn conflicts_json(
     )
 }
 
+/// The document of a merge with these comments in which a side is favoured, since the sides are in
+/// conflict about this, and which reports this, in one line: `{"schema":"cargo-lock-merge/1",
+/// "outcome":"favoured","message":null,"conflicts":[..],"moved":[..],"versions":[..],"alarms":[..],
+/// "comments":"agreed"}`. Fails when out of memory.
+///
+/// ```
+/// let text = favoured_json(rt.alloc(), comments, &conflicts, &remarks)?;
+/// ```
+pub fn favoured_json(
+    alloc: Global,
+    comments: MergedComments<'_>,
+    conflicts: &LockfileConflicts<'_>,
+    remarks: &Remarks<'_>,
+) -> Result<String, AllocError>
+    ensures { IfOk result (λ text. IsJsonText
+        (spec.favoured_json comments.entry conflicts.now remarks.now) (string_bytes text)) }
+{
+    let items = items_of(alloc, conflicts)?;
+    let told = Told::of(alloc, &remarks.notices)?;
+    document_text(
+        alloc,
+        &Document {
+            outcome: "favoured",
+            message: None,
+            conflicts: &items,
+            moved: &remarks.moved,
+            versions: &told.versions,
+            alarms: &told.alarms,
+            comments: Some(comments.word()),
+        },
+    )
+}
+
+/// The document of sides that are in conflict about this, and of which none can be favoured so that
+/// there is a merge, in one line: `{"schema":"cargo-lock-merge/1","outcome":"refused","message":"no
+/// merge has ours where the sides are in conflict","conflicts":[..],"moved":[],"versions":[],
+/// "alarms":[],"comments":null}`. Fails when out of memory.
+///
+/// ```
+/// let text = unfavoured_json(rt.alloc(), &conflicts, Side::Ours)?;
+/// ```
+pub fn unfavoured_json(
+    alloc: Global,
+    conflicts: &LockfileConflicts<'_>,
+    side: Side,
+) -> Result<String, AllocError>
+    ensures { IfOk result (λ text. IsJsonText
+        (spec.unfavoured_json side conflicts.now) (string_bytes text)) }
+{
+    let items = items_of(alloc, conflicts)?;
+    refused_text(alloc, unfavoured_text(side), &items)
+}
+
+/// That there is no merge in which this side is favoured.
+///
+/// ```
+/// let message = unfavoured_text(Side::Ours);
+/// ```
+pub fn unfavoured_text(side: Side) -> &'static str
+    ensures { result.now ≡ unfavoured_text side }
+{
+    match side {
+        Side::Ours => "no merge has ours where the sides are in conflict",
+        Side::Theirs => "no merge has theirs where the sides are in conflict",
+    }
+}
+
 /// The document of lockfiles that are not merged, in one line: `{"schema":"cargo-lock-merge/1",
 /// "outcome":"refused","message":"ours: ..","conflicts":[],"moved":[],"versions":[],"alarms":[],
 /// "comments":null}`.
@@ -106,12 +175,24 @@ pub fn refused_json(alloc: Global, error: &MergeError<'_>) -> Result<String, All
     ensures { IfOk result (λ text. IsJsonText (spec.refused_json error.now) (string_bytes text)) }
 {
     let message = format!(in alloc; "{error}")?;
+    refused_text(alloc, message.as_str(), &[])
+}
+
+// The document of what is refused for this reason, with these conflicts.
+fn refused_text(
+    alloc: Global,
+    message: &str,
+    conflicts: &[Item<'_, '_>],
+) -> Result<String, AllocError>
+    ensures { IfOk result (λ text. IsJsonText
+        (spec.refused_with message.now (map item_json conflicts.now)) (string_bytes text)) }
+{
     document_text(
         alloc,
         &Document {
             outcome: "refused",
-            message: Some(message.as_str()),
-            conflicts: &[],
+            message: Some(message),
+            conflicts,
             moved: &[],
             versions: &[],
             alarms: &[],

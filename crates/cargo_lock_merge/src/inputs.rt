@@ -1,15 +1,18 @@
 //! The three lockfiles of a merge, with the comments at the top of their texts.
 
 ghost use Rattle.std.specs.Prelude.{IfErr, IfOk, IsOkUnless, OnOk};
+ghost use Rattle.cargo_lock_merge.specs.FavouredLockfiles.{FavoursTo};
 ghost use Rattle.cargo_lock_merge.specs.Inputs.{AreInputComments, AreInputsOf, IsInputOf, lockfiles_in};
 ghost use Rattle.cargo_lock_merge.specs.MergedLockfiles.{IsMergeError, MergesTo};
 ghost use Rattle.cargo_lock_parts.specs.declared.error.Error.TheVariants.{Memory};
 
 use crate::comments::{MergedComments, merge_comments};
+use crate::favoured_lockfiles::{FavouredMerge, favour_lockfiles};
 use crate::lockfiles::{LockfileMerge, MergeError, merge_lockfiles};
 use crate::spellings::MergedSpellings;
 use cargo_lock::Lockfile;
-use cargo_lock_layout::comments_of;
+use cargo_lock_layout::{comments_of, without_conflicts};
+use cargo_lock_merge_core::rule3::Side;
 use cargo_lock_parts::error::Result;
 use std::alloc::Global;
 
@@ -19,7 +22,8 @@ pub struct MergeInput {
     /// The lockfile.
     pub lockfile: Lockfile,
 
-    /// The comments at the top of its text that Cargo keeps, each with its newline.
+    /// The comments at the top of its text that Cargo keeps, but those about conflicts, each with
+    /// its newline.
     pub comments: String,
 }
 
@@ -51,7 +55,8 @@ impl MergeInput {
         ensures ok { IfOk result (IsInputOf lockfile text.now) }
         ensures err { IsOkUnless result Memory }
     {
-        let comments = comments_of(alloc, text)?;
+        let kept = comments_of(alloc, text)?;
+        let comments = without_conflicts(alloc, kept.as_str())?;
         Ok(MergeInput { lockfile, comments })
     }
 }
@@ -141,6 +146,36 @@ impl MergeInputs {
             &self.ours.lockfile,
             &self.theirs.lockfile,
             comments.text,
+        )
+    }
+
+    /// The merge in which this side is favoured, whose text has a comment for each conflict, and
+    /// these.
+    ///
+    /// # Errors
+    ///
+    /// See `merge_lockfiles`.
+    ///
+    /// ```
+    /// let merge = inputs.favour(rt.alloc(), comments, Side::Ours);
+    /// ```
+    pub fn favour(
+        &self,
+        alloc: Global,
+        comments: MergedComments<'_>,
+        side: Side,
+    ) -> std::result::Result<FavouredMerge<'_>, MergeError<'_>>
+        ensures ok { IfOk result
+            (FavoursTo side comments.entry.text.now (lockfiles_in self.now)) }
+        ensures err { IfErr result (IsMergeError (lockfiles_in self.now)) }
+    {
+        favour_lockfiles(
+            alloc,
+            &self.base.lockfile,
+            &self.ours.lockfile,
+            &self.theirs.lockfile,
+            comments.text,
+            side,
         )
     }
 }

@@ -1,6 +1,8 @@
 //! Laws of merges and of their lines, each the contract of a function without a body.
 
 ghost use Rattle.cargo_lock_merge.specs.ByPlaces.{MergesAreByPlaces, OutcomesAreByPlaces};
+ghost use Rattle.cargo_lock_merge.specs.FavouredLaws.{MergesAreNotFavoured, OutsideItIsTheMerge};
+ghost use Rattle.cargo_lock_merge.specs.FavouredLaws.{TheFavouredSideIsTaken};
 ghost use Rattle.cargo_lock_merge.specs.Headline.{MergeHeadline, MergesAreSound, MergesReadBack};
 ghost use Rattle.cargo_lock_merge.specs.Headline.{OneSideIsMerged};
 ghost use Rattle.cargo_lock_merge.specs.Lines.{ConflictsAreLines, MovedAreLines, NoticesAreLines};
@@ -53,6 +55,22 @@ pub fn merges_are_sound()
 /// The text of a merge reads back as it.
 pub fn merges_read_back()
     ensures { MergesReadBack }
+{}
+
+/// Where lockfiles have a merge, no side is favoured in what `favour_lockfiles` returns.
+pub fn merges_are_not_favoured()
+    ensures { MergesAreNotFavoured }
+{}
+
+/// Outside of the disputed places a merge in which a side is favoured is merged from what the three
+/// lists have there.
+pub fn outside_it_is_the_merge()
+    ensures { OutsideItIsTheMerge }
+{}
+
+/// At a disputed place such a merge has the package of the favoured side, by identity.
+pub fn the_favoured_side_is_taken()
+    ensures { TheFavouredSideIsTaken }
 {}
 
 /// What a merge promises: what one side alone changed is merged; there is at most one merge, and the

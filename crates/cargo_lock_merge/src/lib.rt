@@ -7,6 +7,7 @@ pub mod comments;
 pub mod conflict;
 pub mod document;
 mod favoured;
+pub mod favoured_lockfiles;
 mod format;
 pub mod inputs;
 pub mod laws;
@@ -26,7 +27,10 @@ mod spellings;
 mod words;
 
 pub use crate::comments::merge_comments;
-pub use crate::document::{conflicts_json, merged_json, refused_json};
+pub use crate::document::{
+    conflicts_json, favoured_json, merged_json, refused_json, unfavoured_json, unfavoured_text,
+};
+pub use crate::favoured_lockfiles::favour_lockfiles;
 pub use crate::inputs::{MergeInput, MergeInputs};
 pub use crate::lockfiles::merge_lockfiles;
 pub use crate::outcome::merge;

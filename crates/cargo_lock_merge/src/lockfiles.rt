@@ -4,7 +4,8 @@ ghost use Rattle.std.specs.Prelude.{◌≡◌, IfErr, IfOk, IsOkUnless, OnOk, st
 ghost use Rattle.std.specs.Bool.{Decides};
 ghost use Rattle.cargo_lock.specs.CargoChecksums.{with_cargo_checksums_in};
 ghost use Rattle.cargo_lock_merge.specs.ByPlaces.{MergesByPlaces};
-ghost use Rattle.cargo_lock_merge.specs.MergedLockfiles.{HaveNoRoots, IsMergeError};
+ghost use Rattle.cargo_lock_merge.specs.MergedLockfiles.{HasFormatIfLost, HaveNoRoots};
+ghost use Rattle.cargo_lock_merge.specs.MergedLockfiles.{IsMergeError};
 ghost use Rattle.cargo_lock_merge.specs.MergedLockfiles.{IsMergedLockfile, IsMetadataMergeOf};
 ghost use Rattle.cargo_lock_merge.specs.MergedLockfiles.{IsRestOf, IsSameLockfile, IsUnread};
 ghost use Rattle.cargo_lock_merge.specs.MergedLockfiles.{LockfileTriple, MergesTo, TextIsOf};
@@ -79,12 +80,17 @@ pub struct LockfileConflicts<'a> {
     pub format: Option<ResolveVersion>,
 }
 
-// The parts of a merge besides its packages.
+/// The parts of a merge besides its packages.
 #[derive(Drop)]
-struct Rest {
-    version: ResolveVersion,
-    metadata: MetadataMerge,
-    patch: Patch,
+pub(crate) struct Rest {
+    /// The format.
+    pub(crate) version: ResolveVersion,
+
+    /// The metadata, and the conflicts about them.
+    pub(crate) metadata: MetadataMerge,
+
+    /// The unused patches.
+    pub(crate) patch: Patch,
 }
 
 /// The merge of two lockfiles over their base, its text and what the merge reports, or the conflicts.
@@ -123,8 +129,8 @@ pub fn merge_lockfiles<'a>(
     Ok(joined(alloc, outcome, rest, comments)?)
 }
 
-// Refuses a lockfile with a root apart from its packages.
-fn refuse_roots<'a>(
+/// Refuses a lockfile with a root apart from its packages.
+pub(crate) fn refuse_roots<'a>(
     base: &Lockfile,
     ours: &Lockfile,
     theirs: &Lockfile,
@@ -161,8 +167,8 @@ fn merged_packages<'a>(
     }
 }
 
-// The other parts of the merge.
-fn rest_of(
+/// The other parts of the merge.
+pub(crate) fn rest_of(
     alloc: Global,
     base: &Lockfile,
     ours: &Lockfile,
@@ -253,8 +259,8 @@ fn joined_packages<'a>(
     }
 }
 
-// The lockfile of these parts.
-fn lockfile_of(packages: Vec<Package>, rest: Rest) -> Lockfile
+/// The lockfile of these parts.
+pub(crate) fn lockfile_of(packages: Vec<Package>, rest: Rest) -> Lockfile
     ensures { result ≡ joined_lockfile packages.items rest }
 {
     let Rest {
@@ -271,8 +277,8 @@ fn lockfile_of(packages: Vec<Package>, rest: Rest) -> Lockfile
     }
 }
 
-// The lockfile with its text, if that reads back as it.
-fn with_text<'a>(
+/// The lockfile with its text, if that reads back as it.
+pub(crate) fn with_text<'a>(
     alloc: Global,
     lockfile: Lockfile,
     remarks: Remarks<'a>,
@@ -280,6 +286,7 @@ fn with_text<'a>(
 ) -> error::Result<LockfileMerge<'a>>
     ensures ok { IfOk result (λ merge. (s : LockfileTriple)
         → IsMergedLockfile s lockfile remarks.entry → MergesTo comments.now s merge) }
+    ensures lost { IfOk result HasFormatIfLost }
     ensures err { IsOkUnless result Memory }
 {
     let text = text_of(alloc, &lockfile, comments)?;
@@ -294,8 +301,8 @@ fn with_text<'a>(
     }
 }
 
-// The text of the lockfile as Cargo writes it, with these comments at the top.
-fn text_of(alloc: Global, lockfile: &Lockfile, comments: &str) -> error::Result<String>
+/// The text of the lockfile as Cargo writes it, with these comments at the top.
+pub(crate) fn text_of(alloc: Global, lockfile: &Lockfile, comments: &str) -> error::Result<String>
     ensures ok { IfOk result
         (λ text. string_bytes text ≡ text_of_lockfile comments.now lockfile.now) }
     ensures err { IsOkUnless result Memory }
@@ -305,8 +312,8 @@ fn text_of(alloc: Global, lockfile: &Lockfile, comments: &str) -> error::Result<
     Ok(text)
 }
 
-// Whether the text reads back as the lockfile, with the checksums that Cargo reads.
-fn reads_back(alloc: Global, lockfile: &Lockfile, text: &str) -> error::Result<bool>
+/// Whether the text reads back as the lockfile, with the checksums that Cargo reads.
+pub(crate) fn reads_back(alloc: Global, lockfile: &Lockfile, text: &str) -> error::Result<bool>
     ensures ok { IfOk result (λ back. Decides back (TextIsOf lockfile.now text.now)) }
     ensures err { IsOkUnless result Memory }
 {

@@ -4,6 +4,8 @@ ghost use Rattle.std.specs.Prelude.{◌≡◌, ◌⊎◌, ℕ, IfOk, IsOkUnless,
 ghost use Rattle.std.specs.Prelude.{OnOk, Some, if◌then◌else◌, option_copied};
 ghost use Rattle.std.specs.Bool.{Decides};
 ghost use Rattle.cargo_lock_merge.specs.OwnMetadata.{ChangesAt, IsMergedKey, IsReadyKey, IsSameAt};
+ghost use Rattle.cargo_lock_merge.specs.OwnMetadata.{IsFavouredAt, IsSameButAt, favoured_at};
+ghost use Rattle.cargo_lock_merge.specs.OwnMetadata.{of_side};
 ghost use Rattle.cargo_lock_merge.specs.OwnMetadata.{is_checksum_at, metadata_conflict};
 ghost use Rattle.cargo_lock_merge.specs.OwnMetadata.{own_metadata, value_at_key, without_packages};
 ghost use Rattle.cargo_lock_merge_core.specs.Agreed.{AreEqual};
@@ -249,6 +251,91 @@ impl<'a> MetadataValues<'a> {
             ours: copy(self.ours)?,
             theirs: copy(self.theirs)?,
         })
+    }
+}
+
+// ---- what a merge has in which a side is favoured
+
+/// Puts the value of the side at each key of these conflicts. The one error is `Memory`.
+pub(crate) fn put_favoured(
+    metadata: &mut Metadata,
+    conflicts: &BTreeMap<MetadataKey, MetadataConflict>,
+    side: Side,
+) -> Result<()>
+    ensures ok { OnOk result ((key : List ℕ) → value_at_key metadata.new key
+        ≡ favoured_at side (value_at_key conflicts.now key) (value_at_key metadata.old key)) }
+    ensures err { IsOkUnless result Memory }
+{
+    put_each(metadata, conflicts, side)
+}
+
+// The same, where a key has no conflict or the value of the side, and the old value or that of the
+// side.
+fn put_each(
+    metadata: &mut Metadata,
+    conflicts: &BTreeMap<MetadataKey, MetadataConflict>,
+    side: Side,
+) -> Result<()>
+    ensures either { OnOk result ((key : List ℕ) → IsSameAt metadata.new metadata.old key
+        ⊎ IsFavouredAt side conflicts.now metadata.old metadata.new key) }
+    ensures done { OnOk result ((key : List ℕ) → (value_at_key conflicts.now key ≡ None)
+        ⊎ IsFavouredAt side conflicts.now metadata.old metadata.new key) }
+    ensures err { IsOkUnless result Memory }
+{
+    for (key, _) in conflicts {
+        put_favoured_at(metadata, conflicts, key, side)?;
+    }
+    Ok(())
+}
+
+// Puts the value of the side at this key, if there is a conflict about it.
+fn put_favoured_at(
+    metadata: &mut Metadata,
+    conflicts: &BTreeMap<MetadataKey, MetadataConflict>,
+    key: &MetadataKey,
+    side: Side,
+) -> Result<()>
+    ensures put { OnOk result
+        (IsFavouredAt side conflicts.now metadata.old metadata.new key.now) }
+    ensures others { OnOk result (IsSameButAt key.now metadata.old metadata.new) }
+    ensures err { IsOkUnless result Memory }
+{
+    match conflicts.get(key) {
+        Some(conflict) => put_value(metadata, key, conflict.of_side(side)),
+        None => Ok(()),
+    }
+}
+
+// Puts the value at this key, or removes what is there, if there is none.
+fn put_value(
+    metadata: &mut Metadata,
+    key: &MetadataKey,
+    value: &Option<MetadataValue>,
+) -> Result<()>
+    ensures put { OnOk result (value_at_key metadata.new key.now ≡ value.now) }
+    ensures others { OnOk result (IsSameButAt key.now metadata.old metadata.new) }
+    ensures err { IsOkUnless result Memory }
+{
+    match value {
+        Some(value) => {
+            metadata.insert(key.clone()?, value.clone()?)?;
+        }
+        None => {
+            metadata.remove(key);
+        }
+    }
+    Ok(())
+}
+
+impl MetadataConflict {
+    // The value of this side.
+    fn of_side(&self, side: Side) -> &Option<MetadataValue>
+        ensures { result.now ≡ of_side side self.now.ours self.now.theirs }
+    {
+        match side {
+            Side::Ours => &self.ours,
+            Side::Theirs => &self.theirs,
+        }
     }
 }
 

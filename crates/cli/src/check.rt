@@ -42,6 +42,7 @@ Each finding is a line, in this order:
   format: V3 loses the tag, branch or revision of `SOURCE`, and Cargo takes whatever it names \
 now; V4 keeps it
   format: V4 does not keep this lockfile
+  conflict: line NUMBER is about a conflict of a merge: `LINE`
   text: line NUMBER is not as Cargo writes it: `LINE` for `CARGO'S LINE`
 A package of the workspace is one without a source.
 

@@ -10,16 +10,23 @@ ghost use Rattle.cli_input.specs.Load.{MeansWithCargoChecksums};
 ghost use Rattle.cli_support.specs.Destination.{IsPrinted};
 ghost use Rattle.cli.specs.Ending.{IsEnd, status_in};
 ghost use Rattle.cli.specs.Merge.{AreInputs, IsBase, IsSide, IsTelling, PrintsConflicts};
-ghost use Rattle.cli.specs.Merge.{PrintsMerge, PrintsMergeAs, PrintsMerged, PrintsRefusal};
+ghost use Rattle.cli.specs.Merge.{PrintsFavoured, PrintsFavouredAs, PrintsFavouredOf, PrintsMerge};
+ghost use Rattle.cli.specs.Merge.{PrintsMergeAs, PrintsMergeOf, PrintsMerged, PrintsRefusal};
+ghost use Rattle.cli.specs.Merge.{PrintsUnfavoured, favoured_in, side_named};
 
 use crate::ending::Ended;
 use cargo_lock::Error;
 use cargo_lock_merge::comments::MergedComments;
+use cargo_lock_merge::favoured_lockfiles::{FavouredLockfile, FavouredMerge};
 use cargo_lock_merge::lockfiles::{LockfileConflicts, LockfileMerge, MergeError};
 use cargo_lock_merge::notice::Remarks;
-use cargo_lock_merge::{MergeInput, MergeInputs, conflicts_json, merged_json, refused_json};
+use cargo_lock_merge::{
+    MergeInput, MergeInputs, conflicts_json, favoured_json, merged_json, refused_json,
+    unfavoured_json, unfavoured_text,
+};
+use cargo_lock_merge_core::rule3::Side;
 use clap::error::ErrorKind as WordsKind;
-use clap::{Arg, ArgMatches, Command};
+use clap::{Arg, ArgAction, ArgMatches, Command};
 use cli_input::load::{WithText, compared_with_text, lockfile_without_packages};
 use cli_support::destination::put_own_out;
 use cli_support::output::put;
@@ -45,6 +52,10 @@ requirement admits a version, so run `cargo metadata --locked` after a merge.
 With --json all that is one line of JSON on standard output, and the lockfile goes to the file of \
 --output, which must be given.
 
+With --favor the merge is written in spite of a conflict: at each disputed place it has what that \
+side has, and at its top a comment `# conflict: ..` for each conflict. `check` reports such a \
+comment, and a merge drops it. Where that is no merge either, the status is 2, and nothing is written.
+
 The status is 1 where there is a conflict, and 2 where a lockfile cannot be read or merged.";
 
 /// The three arguments, as help shows them.
@@ -53,6 +64,9 @@ const BASE_HELP: &str = "The lockfile of the common ancestor, - for standard inp
 const OURS_HELP: &str = "Our lockfile, - for standard input";
 
 const THEIRS_HELP: &str = "Their lockfile, - for standard input";
+
+/// The sides, as the option to favour one names them.
+const SIDES: [&str; 2] = ["ours", "theirs"];
 
 /// Why a document is refused.
 const NO_FILE: &str = "--json needs a file for --output";
@@ -66,8 +80,19 @@ pub(crate) fn command<'a>(alloc: Global) -> Result<Command<'a>, AllocError> {
         .arg(lockfile_path(alloc, "ours", "OURS").help(OURS_HELP))?
         .arg(lockfile_path(alloc, "theirs", "THEIRS").help(THEIRS_HELP))?
         .arg(any_size(alloc)?)?
+        .arg(favor(alloc))?
         .arg(json(alloc)?)?
         .arg(output(alloc))
+}
+
+/// The option to favour a side.
+fn favor<'a>(alloc: Global) -> Arg<'a> {
+    Arg::new(alloc, "favor")
+        .long("favor")
+        .value_name("SIDE")
+        .value_parser(SIDES.as_slice())
+        .help("Writes the merge with what this side has where both are in conflict")
+        .action(ArgAction::Set)
 }
 
 /// The option to print a document. The lockfile goes to a file then.
@@ -86,11 +111,13 @@ enum Telling {
 }
 
 /// Writes the merge of two lockfiles over a base into the output file, or to `out`. The status is
-/// then 0. Where the sides are in conflict nothing is written, and the status is 1. What standard
-/// error is to have comes with the status: a line for each conflict, or for each version that was
-/// chosen, each checksum that a side lost, and each dependency that neither side has. If the arguments
-/// ask for JSON, `out` gets all that as one line in its place. That line also says why lockfiles cannot
-/// be merged, and the status is then 2. Fails if lockfiles cannot be merged otherwise, if one is not
+/// then 0. Where the sides are in conflict nothing is written, and the status is 1. If the
+/// arguments favour a side, the merge in which it is favoured is written then, and the status is 1;
+/// if there is none, nothing is written, and the status is 2. What standard error is to have comes
+/// with the status: a line for each conflict, or for each version that was chosen, each checksum
+/// that a side lost, and each dependency that neither side has. If the arguments ask for JSON,
+/// `out` gets all that as one line in its place. That line also says why lockfiles cannot be
+/// merged, and the status is then 2. Fails if lockfiles cannot be merged otherwise, if one is not
 /// read, if JSON is asked for and the output is no file, and if the output fails.
 pub(crate) fn run<R: Files + Input + AllocGlobal, W: Write>(
     rt: &R,
@@ -105,9 +132,75 @@ pub(crate) fn run<R: Files + Input + AllocGlobal, W: Write>(
 {
     let telling = asked(rt.alloc(), options)?;
     let inputs = inputs(rt, options)?;
+    match favoured_side(options) {
+        Some(side) => favour(rt, options, telling, &inputs, side, out),
+        None => merge(rt, options, telling, &inputs, out),
+    }
+}
+
+/// The side that the arguments favour.
+fn favoured_side(options: &ArgMatches<'_>) -> Option<Side>
+    ensures { result ≡ favoured_in (found_of options.now) }
+{
+    match options.get_str("favor") {
+        Some(word) => Some(side_named(word)),
+        None => None,
+    }
+}
+
+/// The side of this name.
+fn side_named(word: &str) -> Side
+    ensures { result ≡ side_named word.now }
+{
+    if word == "ours" {
+        Side::Ours
+    } else {
+        Side::Theirs
+    }
+}
+
+/// Writes the merge of these lockfiles. Returns the status, with what standard error is to have.
+fn merge<R: Files + AllocGlobal, W: Write>(
+    rt: &R,
+    options: &ArgMatches<'_>,
+    telling: Telling,
+    inputs: &MergeInputs,
+    out: &mut W,
+) -> Result<Ended, Fault>
+    requires { IsTelling (found_of options.now) telling }
+    ensures printed { IfOk result (λ ended. PrintsMergeOf telling (found_of options.now) inputs.now
+        (W.contents out.old) (W.contents out.new)
+        (status_in ended ≡ ExitCode.FAILURE) (status_in ended ≡ ExitCode.SUCCESS)
+        (exit_status (status_in ended) ≡ 2)) }
+    ensures end { IfOk result IsEnd }
+{
     let comments = inputs.comments();
     match inputs.merge(rt.alloc(), comments) {
         Ok(merge) => put_merge(rt, options, telling, comments, merge, out),
+        Err(error) => put_refusal(rt.alloc(), telling, &error, out),
+    }
+}
+
+/// Writes the merge of these lockfiles in which the side is favoured. Returns the status, with what
+/// standard error is to have.
+fn favour<R: Files + AllocGlobal, W: Write>(
+    rt: &R,
+    options: &ArgMatches<'_>,
+    telling: Telling,
+    inputs: &MergeInputs,
+    side: Side,
+    out: &mut W,
+) -> Result<Ended, Fault>
+    requires { IsTelling (found_of options.now) telling }
+    ensures printed { IfOk result (λ ended. PrintsFavouredOf side telling (found_of options.now)
+        inputs.now (W.contents out.old) (W.contents out.new)
+        (status_in ended ≡ ExitCode.FAILURE) (status_in ended ≡ ExitCode.SUCCESS)
+        (exit_status (status_in ended) ≡ 2)) }
+    ensures end { IfOk result IsEnd }
+{
+    let comments = inputs.comments();
+    match inputs.favour(rt.alloc(), comments, side) {
+        Ok(merge) => put_favouring(rt, options, telling, comments, merge, side, out),
         Err(error) => put_refusal(rt.alloc(), telling, &error, out),
     }
 }
@@ -366,6 +459,122 @@ fn put_conflicts<W: Write>(
             let document = conflicts_json(alloc, conflicts)?;
             put_line(out, document.as_str())?;
             Ok(Ended::Silent(ExitCode::FAILURE))
+        }
+    }
+}
+
+/// Writes a merge in which the side is favoured where both are in conflict. Returns the status,
+/// with what standard error is to have.
+fn put_favouring<R: Files + AllocGlobal, W: Write>(
+    rt: &R,
+    options: &ArgMatches<'_>,
+    telling: Telling,
+    comments: MergedComments<'_>,
+    merge: FavouredMerge<'_>,
+    side: Side,
+    out: &mut W,
+) -> Result<Ended, Fault>
+    requires { IsTelling (found_of options.now) telling }
+    ensures printed { IfOk result (λ ended. PrintsFavouredAs side telling (found_of options.now)
+        comments.entry merge.entry (W.contents out.old) (W.contents out.new)
+        (status_in ended ≡ ExitCode.FAILURE) (status_in ended ≡ ExitCode.SUCCESS)
+        (exit_status (status_in ended) ≡ 2)) }
+    ensures end { IfOk result IsEnd }
+{
+    match merge {
+        FavouredMerge::Merged(_, text, remarks) => {
+            let told = Remarked {
+                comments,
+                remarks: &remarks,
+            };
+            put_merged(rt, options, telling, text.as_str(), told, out)
+        }
+        FavouredMerge::Favoured(favoured) => {
+            put_favoured(rt, options, telling, comments, &favoured, out)
+        }
+        FavouredMerge::InConflict(conflicts) => {
+            put_unfavoured(rt.alloc(), telling, &conflicts, side, out)
+        }
+    }
+}
+
+/// Writes the text of a lockfile in which a side is favoured. Returns the status, with what
+/// standard error is to have: a line for each conflict, and what the merge reports.
+fn put_favoured<R: Files + AllocGlobal, W: Write>(
+    rt: &R,
+    options: &ArgMatches<'_>,
+    telling: Telling,
+    comments: MergedComments<'_>,
+    favoured: &FavouredLockfile<'_>,
+    out: &mut W,
+) -> Result<Ended, Fault>
+    requires { IsTelling (found_of options.now) telling }
+    ensures printed { IfOk result (λ ended. PrintsFavoured telling (found_of options.now)
+        comments.entry favoured.now (W.contents out.old) (W.contents out.new)
+        × (status_in ended ≡ ExitCode.FAILURE)) }
+    ensures end { IfOk result IsEnd }
+{
+    let text = favoured.text.as_str();
+    let told = Remarked {
+        comments,
+        remarks: &favoured.remarks,
+    };
+    match telling {
+        Telling::Lines => {
+            let lines = conflict_lines(rt.alloc(), &favoured.conflicts, told)?;
+            put_own_out(rt, options, text, out)?;
+            Ok(Ended::WithLines(ExitCode::FAILURE, lines))
+        }
+        Telling::Document => {
+            let document = favoured_json(
+                rt.alloc(),
+                comments,
+                &favoured.conflicts,
+                &favoured.remarks,
+            )?;
+            put_in_file(rt, options, text, out)?;
+            put_line(out, document.as_str())?;
+            Ok(Ended::Silent(ExitCode::FAILURE))
+        }
+    }
+}
+
+/// A line for each conflict, and what the merge reports.
+fn conflict_lines(
+    alloc: Global,
+    conflicts: &LockfileConflicts<'_>,
+    told: Remarked<'_>,
+) -> Result<String, AllocError> {
+    let mut lines = format!(in alloc; "{conflicts}")?;
+    lines.push_str(told.lines(alloc)?.as_str())?;
+    Ok(lines)
+}
+
+/// Prints the document of conflicts for which no side can be favoured, if that is told. Returns the
+/// status of a fault, with the fault and a line for each conflict.
+fn put_unfavoured<W: Write>(
+    alloc: Global,
+    telling: Telling,
+    conflicts: &LockfileConflicts<'_>,
+    side: Side,
+    out: &mut W,
+) -> Result<Ended, Fault>
+    ensures printed { IfOk result (λ ended. PrintsUnfavoured side telling conflicts.now
+        (W.contents out.old) (W.contents out.new) × (exit_status (status_in ended) ≡ 2)) }
+    ensures end { IfOk result IsEnd }
+{
+    let reason = String::from_str(alloc, unfavoured_text(side))?;
+    let faults = vec![in alloc; Fault::Refused(reason)]?;
+    match telling {
+        Telling::Lines => {
+            let lines = format!(in alloc; "{conflicts}")?;
+            Ok(Ended::Failed(ExitCode::from(2), faults, lines))
+        }
+        Telling::Document => {
+            let document = unfavoured_json(alloc, conflicts, side)?;
+            put_line(out, document.as_str())?;
+            let no_lines = String::new(alloc);
+            Ok(Ended::Failed(ExitCode::from(2), faults, no_lines))
         }
     }
 }

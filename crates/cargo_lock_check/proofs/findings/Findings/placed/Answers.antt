@@ -1,8 +1,7 @@
-use Rattle.std.proofs.Common.{◌≡◌, ◌++◌, List, map, option_map, append_assoc}
+use Rattle.std.proofs.Common.{◌≡◌, ◌++◌, List, map, append_assoc}
 use Rattle.std.specs.List.{filter_map}
-use Rattle.std.specs.Option.{option_to_list}
-use Rattle.cargo_lock_check.specs.Finding.{LostDependency, OtherLine, StaleChecksum}
-use Rattle.cargo_lock_check.specs.Findings.{FindingsData, dependency_at, found_nowhere, placed_told, told_of_checksums, told_of_formats, told_of_misleading, told_of_order, told_of_orphans, told_of_twice}
+use Rattle.cargo_lock_check.specs.Finding.{LostDependency, StaleChecksum}
+use Rattle.cargo_lock_check.specs.Findings.{FindingsData, dependency_at, found_nowhere, placed_told, told_of_checksums, told_of_formats, told_of_misleading, told_of_order, told_of_orphans, told_of_text, told_of_twice}
 use Rattle.cargo_lock_check.proofs.findings.Findings.placed.Goals as goal
 
 nine-joined : {X : Type 0} (a b c d e f g h i : List X) → (((((((a ++ b) ++ c) ++ d) ++ e) ++ f) ++ g) ++ h) ++ i ≡ a ++ (b ++ (c ++ (d ++ (e ++ (f ++ (g ++ (h ++ i)))))))
@@ -12,17 +11,16 @@ nine-joined a b c d e f g h i = simp append_assoc
 told-joined : (f : FindingsData) → (((((((filter_map (dependency_at LostDependency f.packages) f.lost_dependencies ++ told_of_twice f)
     ++ told_of_misleading f) ++ told_of_orphans f.has_workspace f.packages f.orphans) ++ told_of_checksums f)
     ++ map (λ key. found_nowhere (StaleChecksum key)) f.stale) ++ told_of_order f) ++ told_of_formats f)
-    ++ option_to_list (option_map (λ line. found_nowhere (OtherLine line)) f.other_line) ≡ placed_told f
+    ++ told_of_text f ≡ placed_told f
 told-joined f =
     nine-joined (filter_map (dependency_at LostDependency f.packages) f.lost_dependencies) (told_of_twice f) (told_of_misleading f)
     (told_of_orphans f.has_workspace f.packages f.orphans) (told_of_checksums f) (map (λ key. found_nowhere (StaleChecksum key)) f.stale)
-    (told_of_order f) (told_of_formats f) (option_to_list (option_map (λ line. found_nowhere (OtherLine line)) f.other_line))
+    (told_of_order f) (told_of_formats f) (told_of_text f)
 
 pub returns : goal.returns
 returns c =
     rw (
-      c.in_ok-add_some.ensures,
-      c.other_line_finding.ensures,
+      c.in_ok-add_text.ensures,
       c.in_ok-add_formats.ensures,
       c.in_ok-add_order.ensures,
       c.in_ok-add_stale.ensures,
