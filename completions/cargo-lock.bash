@@ -135,12 +135,14 @@ _cargo_lock() {
         case $previous in
         -f | --file) _cargo_lock_files ;;
         --manifests) _cargo_lock_files ;;
+        --metadata) _cargo_lock_files ;;
+        --root) ;;
         --allow) ;;
         --license) ;;
         --exempt) ;;
         --format) _cargo_lock_offer 'sarif github' ;;
         --name) _cargo_lock_files ;;
-        *) _cargo_lock_offer '-f --file --any-size --manifests --allow --license --exempt --json --format --name -h --help' ;;
+        *) _cargo_lock_offer '-f --file --any-size --manifests --metadata --root --shipped --trust-features --allow --license --exempt --json --format --name -h --help' ;;
         esac
         ;;
     audit)

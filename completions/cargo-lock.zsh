@@ -157,6 +157,10 @@ _cargo-lock() {
             '(-f --file)'{-f,--file}'[The lockfile, - for standard input]:PATH:_files' \
             '--any-size[Reads a lockfile of 256 MiB or more too]' \
             '--manifests[The folder of `cargo vendor`, or registry/src of Cargo]:FOLDER:_files -/' \
+            '--metadata[What `cargo metadata --locked --format-version 1` printed]:FILE:_files' \
+            '*--root[A package that is shipped, and others that are given so]:SPEC:' \
+            '--shipped[Looks only at what is shipped, or not in the document]' \
+            '--trust-features[Looks only at what is shipped]' \
             '*--allow[Allows this term, and others that are given so]:TERM:' \
             '*--license[Takes this expression in place of what the manifest says]:NAME@VERSION=EXPRESSION:' \
             '*--exempt[Allows this term for this package alone]:NAME[@VERSION]=TERM:' \

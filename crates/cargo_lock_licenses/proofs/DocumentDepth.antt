@@ -21,6 +21,7 @@ judged-depth line j = omega (
   identity-depth (identity_of (verdict_package j.verdict)) (verdict_package j.verdict).checksum,
   text-depth (expression_of j.verdict),
   text-depth (other_text j.word),
+  text-depth (option_map kind_text j.kind),
 )
 
 pub licenses-depth : (file : FileData) (judged : List (Located Judged)) (unmet : List UnmetData)

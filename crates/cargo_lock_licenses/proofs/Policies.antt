@@ -26,6 +26,7 @@ pub exemptions-reach-their-own : ExemptionsReachTheirOwn
 exemptions-reach-their-own policy before after x s j other h = record {
   judged = subst (λ ts. IsJudgedBy ts s (expression_for policy s.content) j) (ap (with_exempt policy.allowed) (sym (without s.content before x after other))) h.judged;
   exempted = h.exempted ∙ sym (any-without (exempts s.content) before x after other);
+  kind = h.kind;
 }
 
 -- ---- an expression that is given for other packages
@@ -38,6 +39,7 @@ pub given-reach-their-own : GivenReachTheirOwn
 given-reach-their-own policy before after g s j other h = record {
   judged = subst (λ (e : Option (List ℕ)). IsJudgedBy (terms_for policy s.content) s e j) (ap (option_map (λ (one : GivenData). one.expression)) (sym (find-without (gives s.content) before g after other))) h.judged;
   exempted = h.exempted;
+  kind = h.kind;
 }
 
 -- ---- more exemptions

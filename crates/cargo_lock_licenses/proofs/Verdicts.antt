@@ -18,7 +18,7 @@ use Rattle.cargo_lock_licenses.specs.Grammar.{IsExpression, ReadsAs, Tree}
 use Rattle.cargo_lock_licenses.specs.Judged.{IsJudged, JudgedData, agreed}
 use Rattle.cargo_lock_licenses.specs.Policy.{PolicyData}
 use Rattle.cargo_lock_licenses.specs.Report.{AddsJudged, AreJudged}
-use Rattle.cargo_lock_licenses.specs.Subjects.{LicenseSubjectData, ManifestData, is_same, license_subject_of, manifest_of, subject_has_source}
+use Rattle.cargo_lock_licenses.specs.Subjects.{LicenseSubjectData, ManifestData, is_same, license_subject_of, manifest_of, subject_is_asked}
 use Rattle.cargo_lock_licenses.specs.Tokens.{TokenData, tokens}
 use Rattle.cargo_lock_licenses.specs.Verdicts.{Allowed, Differ, IsVerdictIn, IsVerdictOf, IsVerdictOn, MoreAddNoFinding, NoExpression, NoLicense, NoManifest, NotAllowed, OnlyFile, Permits, VerdictData, is_finding, verdict_of}
 use Rattle.cargo_lock_licenses.proofs.Complete.{evaluated-value, value}
@@ -84,18 +84,18 @@ filter-push p (a ∷ xs) x = by (p a) (filter-push p xs x)
     by true e = ap (λ ys. a ∷ ys) e
     by false e = e
 
-pub one-more : (policy : PolicyData) (before : List LicenseSubjectData) (s : LicenseSubjectData) (old new : List JudgedData) → AreJudged policy before old → AddsJudged policy s (subject_has_source s) old new
+pub one-more : (policy : PolicyData) (before : List LicenseSubjectData) (s : LicenseSubjectData) (old new : List JudgedData) → AreJudged policy before old → AddsJudged policy s (subject_is_asked s) old new
     → AreJudged policy (before ++ s ∷ []) new
 one-more policy before s old new are adds =
-    subst (λ xs. AllZip (IsJudged policy) xs new) (sym (filter-push subject_has_source before s)) (by (subject_has_source s) adds)
+    subst (λ xs. AllZip (IsJudged policy) xs new) (sym (filter-push subject_is_asked before s)) (by (subject_is_asked s) adds)
   where
-    by : (b : Bool) → AddsJudged policy s b old new → AllZip (IsJudged policy) (filter subject_has_source before ++ (if b then s ∷ [] else [])) new
+    by : (b : Bool) → AddsJudged policy s b old new → AllZip (IsJudged policy) (filter subject_is_asked before ++ (if b then s ∷ [] else [])) new
     by true a =
-        subst (AllZip (IsJudged policy) (filter subject_has_source before ++ s ∷ [])) (sym a.2)
-        (zip-push (IsJudged policy) (filter subject_has_source before) old s a.0 are a.1)
+        subst (AllZip (IsJudged policy) (filter subject_is_asked before ++ s ∷ [])) (sym a.2)
+        (zip-push (IsJudged policy) (filter subject_is_asked before) old s a.0 are a.1)
     by false a =
-        subst (λ xs. AllZip (IsJudged policy) xs new) (sym (append-nil (filter subject_has_source before)))
-        (subst (AllZip (IsJudged policy) (filter subject_has_source before)) (sym a) are)
+        subst (λ xs. AllZip (IsJudged policy) xs new) (sym (append-nil (filter subject_is_asked before)))
+        (subst (AllZip (IsJudged policy) (filter subject_is_asked before)) (sym a) are)
 
 -- ---- more terms add no finding
 
@@ -162,7 +162,7 @@ map-push f (y ∷ ys) x = ap (λ zs. f y ∷ zs) (map-push f ys x)
 
 -- a step of the loop over the subjects
 pub next-subject : (policy : PolicyData) (subjects : List Subject) (i : ℕ) (s : Subject) (old new : List JudgedData) → i < length subjects → s ≡ get_or subjects i s
-    → AreJudged policy (map license_subject_of (take i subjects)) old → AddsJudged policy (license_subject_of s) (subject_has_source (license_subject_of s)) old new → AreJudged policy (map license_subject_of (take (i + 1) subjects)) new
+    → AreJudged policy (map license_subject_of (take i subjects)) old → AddsJudged policy (license_subject_of s) (subject_is_asked (license_subject_of s)) old new → AreJudged policy (map license_subject_of (take (i + 1) subjects)) new
 next-subject policy subjects i s old new within is are adds =
     subst (λ xs. AreJudged policy xs new) (sym (ap (map license_subject_of) so_far ∙ map-push license_subject_of (take i subjects) s)) (one-more policy (map license_subject_of (take i subjects)) (license_subject_of s) old new are adds)
   where

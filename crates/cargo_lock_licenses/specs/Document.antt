@@ -1,5 +1,6 @@
 -- What is said of the licences of packages, in JSON: the document that `licenses --json` prints.
-use Rattle.std.specs.Prelude.{ℕ, Bool, List, Option, None, Some, codes, false, map, true}
+use Rattle.std.specs.Prelude.{ℕ, Bool, List, Option, None, Some, codes, false, map, option_map}
+use Rattle.std.specs.Prelude.{true}
 use Rattle.json.specs.Json.{Json, array, boolean, string, object, member, no_members}
 use Rattle.cargo_lock_licenses.specs.declared.judged.Judged.{Judged}
 use Rattle.cargo_lock_licenses.specs.Judged.{JudgedData, WordData, Given, Manifests, judged_line}
@@ -13,6 +14,7 @@ use Rattle.cargo_lock_display.specs.PackageJson.{package_json}
 use Rattle.cargo_lock_location.specs.Lines.{LinesData, line_of_package}
 use Rattle.cargo_lock_location.specs.Located.{line_or_null}
 use Rattle.cargo_lock_location.specs.declared.located.Located.{Located}
+use Rattle.cargo_lock_metadata.specs.Steps.{kind_text}
 use Rattle.printing.specs.Value.{text_or_null}
 use Rattle.printing.specs.Json.{items_of}
 
@@ -70,7 +72,8 @@ judged_json line j = object
     (member (codes "expression") (text_or_null (expression_of j.verdict))
     (member (codes "given") (boolean (is_given j.word))
     (member (codes "manifest") (text_or_null (other_text j.word))
-    (member (codes "exempted") (boolean j.exempted) no_members))))))))
+    (member (codes "exempted") (boolean j.exempted)
+    (member (codes "package_kind") (text_or_null (option_map kind_text j.kind)) no_members)))))))))
 
 -- the JSON of what the program says of a package at its line
 abbrev pub located_judged_json : Located Judged → Json

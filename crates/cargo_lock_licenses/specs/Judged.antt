@@ -4,6 +4,7 @@ use Rattle.std.specs.Prelude.{bytes_eq, codes, false, if◌then◌else◌, optio
 use Rattle.std.specs.List.{Contains, list_all}
 use Rattle.printing.specs.Shown.{shown}
 use Rattle.printing.specs.declared.form.Form.TheVariants.{Quoted}
+use Rattle.cargo_lock_metadata.specs.declared.kinds.Kind.{Kind}
 use Rattle.cargo_lock_licenses.specs.declared.judged.Judged.{Judged}
 use Rattle.cargo_lock_licenses.specs.declared.judged.Word.{Word}
 use Rattle.cargo_lock_licenses.specs.declared.judged.Word.TheVariants as word
@@ -24,17 +25,19 @@ abbrev pub word_of : Word → WordData
 word_of word.Manifests = Manifests
 word_of (word.Given other) = Given (option_map (λ t. string_bytes t.now) other)
 
--- what is said, by whose word, and whether the package has an exemption
+-- what is said, by whose word, whether the package has an exemption, and its kind where that is known
 pub record JudgedData : Type 0 where
   pub verdict : VerdictData
   pub word : WordData
   pub exempted : Bool
+  pub kind : Option Kind
 
 abbrev pub judged_of : Judged → JudgedData
 judged_of j = record {
   verdict = verdict_of j.verdict;
   word = word_of j.word;
   exempted = j.is_exempted;
+  kind = j.kind;
 }
 
 -- it is a finding
@@ -61,6 +64,7 @@ IsJudgedBy allowed s (Some text) j = IsVerdictOn allowed s.content text j.verdic
 pub record IsJudged (policy : PolicyData) (s : LicenseSubjectData) (j : JudgedData) : Type 0 where
   pub judged : IsJudgedBy (terms_for policy s.content) s (expression_for policy s.content) j
   pub exempted : j.exempted ≡ is_exempt policy s.content
+  pub kind : j.kind ≡ s.kind
 
 -- ---- lines
 

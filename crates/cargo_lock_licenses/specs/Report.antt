@@ -11,16 +11,16 @@ use Rattle.cargo_lock_licenses.specs.declared.report.Unmet.{Unmet}
 use Rattle.cargo_lock_licenses.specs.declared.report.Unmet.TheVariants as unmet
 use Rattle.cargo_lock_licenses.specs.Judged.{IsJudged, JudgedData, judged_line}
 use Rattle.cargo_lock_licenses.specs.Policy.{ExemptionData, GivenData, PolicyData, exempts, gives}
-use Rattle.cargo_lock_licenses.specs.Subjects.{LicenseSubjectData, subject_has_source}
+use Rattle.cargo_lock_licenses.specs.Subjects.{LicenseSubjectData, subject_is_asked}
 use Rattle.cargo_lock_licenses.specs.Terms.{terms}
 use Rattle.cargo_lock_licenses.specs.Verdicts.{VerdictData, Allowed, Differ, NoExpression}
 use Rattle.cargo_lock_licenses.specs.Verdicts.{NoLicense, NoManifest, NotAllowed, OnlyFile}
 
--- one of these is said of each package with a source, in their order
+-- one of these is said of each package that is asked, in their order
 abbrev pub AreJudged : PolicyData → List LicenseSubjectData → List JudgedData → Type 0
-AreJudged policy subjects = AllZip (IsJudged policy) (filter subject_has_source subjects)
+AreJudged policy subjects = AllZip (IsJudged policy) (filter subject_is_asked subjects)
 
--- what is said of a subject is added, if its package has a source
+-- what is said of a subject is added, if it is asked
 abbrev pub AddsJudged : PolicyData → LicenseSubjectData → Bool → List JudgedData → List JudgedData
     → Type 0
 AddsJudged policy s true old new =
@@ -56,12 +56,12 @@ terms_had = flat_map (λ j. terms_of j.verdict)
 abbrev pub unmet_term : List (List ℕ) → List ℕ → List UnmetData
 unmet_term had term = if list_any (bytes_eq term) had then [] else Term term ∷ []
 
--- the subject is a package with a source for which the expression is given, or which has the exemption
+-- the subject is asked, and the expression is given for its package, or it has the exemption
 abbrev pub is_given : GivenData → LicenseSubjectData → Bool
-is_given g s = subject_has_source s && gives s.content g
+is_given g s = subject_is_asked s && gives s.content g
 
 abbrev pub is_exempted : ExemptionData → LicenseSubjectData → Bool
-is_exempted x s = subject_has_source s && exempts s.content x
+is_exempted x s = subject_is_asked s && exempts s.content x
 
 -- the words, if there is no such package
 abbrev pub unmet_given : List LicenseSubjectData → GivenData → List UnmetData

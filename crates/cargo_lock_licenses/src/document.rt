@@ -7,6 +7,7 @@ ghost use Rattle.cargo_lock_licenses.specs.Verdicts.{verdict_of};
 ghost use Rattle.cargo_lock_licenses.specs.Document.{expression_of, other_text, verdict_kind};
 ghost use Rattle.cargo_lock_licenses.specs.Document.{located_judged_json, verdict_package};
 ghost use Rattle.cargo_lock_licenses.specs.Document as spec;
+ghost use Rattle.cargo_lock_metadata.specs.Steps.{kind_text};
 ghost use Rattle.printing.specs.Json.{IsJsonText};
 
 use crate::judged::{Judged, Word};
@@ -14,6 +15,7 @@ use crate::report::{Report, Unmet};
 use crate::verdict::Verdict;
 use cargo_lock_display::{File, begin_document, put_package};
 use cargo_lock_location::{Lined, Located, PackageLines, locate, put_line};
+use cargo_lock_metadata::Kind;
 use cargo_lock_parts::package::Package;
 use printing::{JsonWriter, ToJson, json_line, write_array, write_text_or_null};
 use std::alloc::{AllocError, Global};
@@ -110,6 +112,7 @@ impl Lined for Judged<'_, '_> {
         out.boolean_member("given", is_given(self.word))?;
         write_text_or_null(out, "manifest", other_text(self.word))?;
         out.boolean_member("exempted", self.is_exempted)?;
+        write_text_or_null(out, "package_kind", kind_text(self.kind))?;
         out.end_object()
     }
 }
@@ -125,6 +128,16 @@ impl ToJson for Unmet<'_> {
         match *self {
             Unmet::Term(text) | Unmet::Words(text) => out.string(text.as_str()),
         }
+    }
+}
+
+// The word for a kind.
+fn kind_text(kind: Option<Kind>) -> Option<&'static str>
+    ensures { option_map (λ t. t.now) result ≡ option_map kind_text kind }
+{
+    match kind {
+        Some(kind) => Some(kind.as_str()),
+        None => None,
     }
 }
 

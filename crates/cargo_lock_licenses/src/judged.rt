@@ -9,6 +9,7 @@ ghost use Rattle.cargo_lock_licenses.specs.Subjects.{license_subject_of, manifes
 use crate::policy::Policy;
 use crate::subject::{Manifest, Subject};
 use crate::verdict::{Verdict, are_same, verdict_on};
+use cargo_lock_metadata::Kind;
 use printing::Quoted;
 use std::alloc::{AllocError, Global};
 use std::fmt;
@@ -26,6 +27,9 @@ pub struct Judged<'p, 'a> {
 
     /// Whether an exemption is for the package.
     pub is_exempted: bool,
+
+    /// Whether the package is shipped or for what it is needed, where that is known.
+    pub kind: Option<Kind>,
 }
 
 /// By whose word an expression is that of a package.
@@ -55,6 +59,7 @@ impl<'p, 'a> Judged<'p, 'a> {
         let package = subject.package;
         let terms = policy.terms_for(alloc, package)?;
         let is_exempted = policy.is_exempt(package);
+        let kind = subject.kind;
         let Some(text) = policy.expression_for(package) else {
             let verdict = Verdict::of(alloc, subject, &terms)?;
             let word = Word::Manifests;
@@ -62,6 +67,7 @@ impl<'p, 'a> Judged<'p, 'a> {
                 verdict,
                 word,
                 is_exempted,
+                kind,
             });
         };
         let verdict = verdict_on(alloc, package, text, &terms)?;
@@ -70,6 +76,7 @@ impl<'p, 'a> Judged<'p, 'a> {
             verdict,
             word,
             is_exempted,
+            kind,
         })
     }
 

@@ -10,7 +10,7 @@ ghost use Rattle.cargo_lock_licenses.specs.Report.{AddsJudged, AreJudged, all_un
 ghost use Rattle.cargo_lock_licenses.specs.Report.{is_given, judged_text, terms_had, terms_of};
 ghost use Rattle.cargo_lock_licenses.specs.Report.{unmet_exemption, unmet_given, unmet_of};
 ghost use Rattle.cargo_lock_licenses.specs.Report.{unmet_term, vain_text};
-ghost use Rattle.cargo_lock_licenses.specs.Subjects.{license_subject_of, subject_has_source};
+ghost use Rattle.cargo_lock_licenses.specs.Subjects.{license_subject_of, subject_is_asked};
 ghost use Rattle.cargo_lock_licenses.specs.Terms as spec;
 ghost use Rattle.cargo_lock_licenses.specs.Verdicts.{verdict_of};
 
@@ -24,10 +24,10 @@ use std::alloc::{AllocError, Global};
 use std::fmt;
 
 /// What is reported of the licences of packages. `Display` writes a line for each package with a
-/// source, and then one for each part of the policy that was said in vain, each with its newline.
+/// source or a manifest, and then one for each part of the policy that was said in vain, each with its newline.
 #[derive(Drop)]
 pub struct Report<'p, 'a> {
-    /// What is said of each package with a source, in the order of the subjects.
+    /// What is said of each package with a source or a manifest, in the order of the subjects.
     pub judged: Vec<Judged<'p, 'a>>,
 
     /// What the policy says in vain: terms, then what is given, then exemptions.
@@ -40,13 +40,14 @@ pub enum Unmet<'a> {
     /// A term that is allowed, and that no expression has: `- TERM: nothing to allow`.
     Term(&'a String),
 
-    /// The words of an expression that is given, or of an exemption, for which there is no package
-    /// with a source: `- WORDS: no such package`.
+    /// The words of an expression that is given, or of an exemption, for which there is no such
+    /// package: `- WORDS: no such package`.
     Words(&'a String),
 }
 
 impl<'p, 'a> Report<'p, 'a> {
-    /// What is reported of these packages by a policy. Packages without a source are left out. Fails
+    /// What is reported of these packages by a policy. Packages with neither a source nor a manifest are left
+    /// out. Fails
     /// when out of memory.
     ///
     /// ```
@@ -68,7 +69,7 @@ impl<'p, 'a> Report<'p, 'a> {
         Ok(Report { judged, unmet })
     }
 
-    /// How many of the packages with a source are findings.
+    /// How many of these packages are findings.
     ///
     /// ```
     /// let is_clean = report.count_of_findings() == 0;
@@ -80,7 +81,7 @@ impl<'p, 'a> Report<'p, 'a> {
     }
 }
 
-// What is said of each package with a source.
+// What is said of each package with a source or a manifest.
 fn all_judged<'p, 'a>(
     alloc: Global,
     subjects: &'a [Subject<'p>],
@@ -96,7 +97,7 @@ fn all_judged<'p, 'a>(
     Ok(judged)
 }
 
-// Adds what is said of a package, if it has a source.
+// Adds what is said of a package, if it has a source or a manifest.
 fn put_judged<'p, 'a>(
     alloc: Global,
     judged: &mut Vec<Judged<'p, 'a>>,
@@ -104,10 +105,10 @@ fn put_judged<'p, 'a>(
     policy: &'a Policy,
 ) -> Result<(), AllocError>
     ensures { OnOk result (AddsJudged (policy_of policy.now)
-        (license_subject_of subject.now) (subject_has_source (license_subject_of subject.now))
+        (license_subject_of subject.now) (subject_is_asked (license_subject_of subject.now))
         (map judged_of judged.old.items) (map judged_of judged.new.items)) }
 {
-    if !subject.has_source() {
+    if !subject.is_asked() {
         return Ok(());
     }
     let found = Judged::of(alloc, subject, policy)?;
@@ -270,7 +271,7 @@ fn is_given_for_one(subjects: &[Subject<'_>], given: &Given) -> bool
 fn is_given_for(subject: &Subject<'_>, given: &Given) -> bool
     ensures { result ≡ is_given (given_of given.now) (license_subject_of subject.now) }
 {
-    subject.has_source() && given.gives(subject.package)
+    subject.is_asked() && given.gives(subject.package)
 }
 
 // Adds the words of the exemptions of no package.
@@ -324,7 +325,7 @@ fn is_one_exempted(subjects: &[Subject<'_>], exemption: &Exemption) -> bool
 fn has_exemption(subject: &Subject<'_>, exemption: &Exemption) -> bool
     ensures { result ≡ is_exempted (exemption_of exemption.now) (license_subject_of subject.now) }
 {
-    subject.has_source() && exemption.exempts(subject.package)
+    subject.is_asked() && exemption.exempts(subject.package)
 }
 
 // ---- lines

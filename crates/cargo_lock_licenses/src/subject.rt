@@ -1,8 +1,10 @@
 //! Packages and what their manifests say of licences.
 
-ghost use Rattle.std.specs.Prelude.{◌≡◌, is_some};
-ghost use Rattle.cargo_lock_licenses.specs.Subjects.{is_same, license_subject_of, manifest_of};
+ghost use Rattle.std.specs.Prelude.{◌≡◌, map};
+ghost use Rattle.cargo_lock_licenses.specs.Subjects.{has_manifest, is_same, license_subject_of};
+ghost use Rattle.cargo_lock_licenses.specs.Subjects.{manifest_of, subject_is_asked};
 
+use cargo_lock_metadata::Kind;
 use cargo_lock_parts::package::Package;
 
 /// What a manifest says of the licence of its package.
@@ -30,16 +32,29 @@ pub struct Subject<'a> {
     /// The package.
     pub package: &'a Package,
 
+    /// Whether it is shipped or for what it is needed, where that is known.
+    pub kind: Option<Kind>,
+
     /// The manifests. Which are of its name and version is for the caller to say.
     pub manifests: Vec<Manifest>,
 }
 
 impl Subject<'_> {
-    // Whether the package has a source.
-    pub(crate) fn has_source(&self) -> bool
-        ensures { result ≡ is_some (license_subject_of self.now).content.source }
+    // Whether the package has a source or a manifest.
+    pub(crate) fn is_asked(&self) -> bool
+        ensures { result ≡ subject_is_asked (license_subject_of self.now) }
     {
         let package = self.package;
-        package.source.is_some()
+        package.source.is_some() || has_manifest(&self.manifests)
+    }
+}
+
+// Whether there is a manifest.
+fn has_manifest(manifests: &[Manifest]) -> bool
+    ensures { result ≡ has_manifest (map manifest_of manifests.now) }
+{
+    match manifests {
+        [] => false,
+        _ => true,
     }
 }

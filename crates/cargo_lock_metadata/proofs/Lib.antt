@@ -5,3 +5,4 @@ mod Belongings
 mod Stepping
 mod Rooting
 mod KindLaws
+mod Joinings

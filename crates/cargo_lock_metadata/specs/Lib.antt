@@ -7,4 +7,6 @@ pub mod Belonging
 pub mod Document
 pub mod Steps
 pub mod Roots
+pub mod Joined
+pub mod Scope
 pub mod Laws

@@ -33,6 +33,10 @@ abbrev pub counts_text : KindCounts → List ℕ
 counts_text c = needed_text c ++ (decimal c.unused ++ (codes " unused, " ++ (decimal c.absent
     ++ codes " absent (not built with these features and this target)")))
 
+-- the last line, by the roots and the counts
+abbrev pub kinds_text : List NameAndVersion → KindCounts → List ℕ
+kinds_text roots counts = codes "shipped from " ++ roots_text roots ++ codes ": " ++ counts_text counts
+
 -- the last line
 abbrev pub kinds_line_text : KindsLine → List ℕ
-kinds_line_text l = codes "shipped from " ++ roots_text l.roots.now ++ codes ": " ++ counts_text l.counts
+kinds_line_text l = kinds_text l.roots.now l.counts

@@ -6,6 +6,7 @@ ghost use Rattle.lists.specs.Chains.{OneLeadsTo};
 ghost use Rattle.lists.specs.Marks.{IsMarked};
 ghost use Rattle.lists.specs.Reach.{HasReached};
 ghost use Rattle.cargo_lock_metadata.specs.Steps.{AreKinds, AreKindsBy, AreMarksOfReached, DependsOnPackage};
+ghost use Rattle.cargo_lock_metadata.specs.Scope.{is_in_scope};
 ghost use Rattle.cargo_lock_metadata.specs.Steps.{IsKindBy, LeadsToPackageAt, kind_text};
 ghost use Rattle.cargo_lock_metadata.specs.declared.kinds.Edges.TheVariants as edges;
 
@@ -50,6 +51,38 @@ impl Kind {
             Kind::Development => "dev",
             Kind::Unused => "unused",
             Kind::Absent => "absent",
+        }
+    }
+}
+
+/// Which packages of a lockfile are looked at.
+#[derive(Clone, Copy, PartialEq, Eq)]
+pub enum Scope {
+    /// All.
+    All,
+
+    /// Those that are shipped, and those that the document does not have, which may be built with other
+    /// features or for another target.
+    ShippedOrAbsent,
+
+    /// Those that are shipped.
+    ShippedAlone,
+}
+
+impl Scope {
+    /// Whether a package of this kind is looked at.
+    ///
+    /// ```
+    /// let is_looked_at = scope.has(kind);
+    /// ```
+    pub fn has(self, kind: Kind) -> bool
+        ensures { result ≡ is_in_scope self kind }
+    {
+        match (self, kind) {
+            (Scope::All, _) => true,
+            (_, Kind::Shipped) => true,
+            (Scope::ShippedOrAbsent, Kind::Absent) => true,
+            _ => false,
         }
     }
 }

@@ -2,8 +2,8 @@
 //! `cargo metadata --locked --format-version 1` prints.
 //!
 //! A caller reads the document by `Document::from_str`, and joins it with the packages of the lockfile
-//! by `document_places`. It takes the roots by `roots_of`, and then asks `kinds_of` for the kind of each
-//! package. `KindsLine` displays how many packages there are of each kind.
+//! by `Joined::of`, which has the kind of each package, and the line that says how many there are of
+//! each kind. It makes that of `document_places`, `roots_of` and `kinds_of`.
 //!
 //! ```
 //! let document = Document::from_str(alloc, text)?;
@@ -16,6 +16,7 @@ mod fields;
 mod graph;
 pub mod identity;
 mod index;
+pub mod joined;
 pub mod kinds;
 pub mod laws;
 pub mod line;
@@ -25,7 +26,8 @@ pub mod roots;
 pub use crate::belonging::{BelongingError, document_places};
 pub use crate::document::{About, DependencyKind, Document, DocumentPackage, Node, NodeDependency};
 pub use crate::identity::PlainIdentity;
-pub use crate::kinds::{Kind, kinds_of};
+pub use crate::joined::{JoinError, Joined};
+pub use crate::kinds::{Kind, Scope, kinds_of};
 pub use crate::line::{KindCounts, KindsLine};
 pub use crate::name_and_version::NameAndVersion;
 pub use crate::roots::{RootsError, roots_of};

@@ -1,2 +1,3 @@
 pub mod Expressions
+pub mod Licensing
 pub mod Reasoning

@@ -9,6 +9,7 @@ use Rattle.cargo_lock_licenses.specs.Tokens.{tokens}
 use Rattle.cargo_lock_licenses.specs.Verdicts.{IsVerdict, VerdictData, Allowed, Differ}
 use Rattle.cargo_lock_licenses.specs.Verdicts.{NoExpression, NoLicense, NoManifest, NotAllowed}
 use Rattle.cargo_lock_licenses.specs.Verdicts.{OnlyFile}
+use Rattle.cargo_lock_metadata.specs.declared.kinds.Scope.TheVariants.{All as Everything}
 use Rattle.cargo_lock_parts.specs.Identity.{PackageData}
 use Rattle.cli_folder_commands.specs.Licenses.{AreLicensed}
 
@@ -46,7 +47,7 @@ IsLicense s = IsLicenseIf (subject_has_source s) s
 -- the licences of these packages, each with some manifests, in their order
 abbrev pub AreLicensesOf : List PackageData → List (Option LicenseData) → Type 0
 AreLicensesOf packages licenses = (subjects : List LicenseSubjectData)
-    × AreLicensed packages subjects × AllZip IsLicense subjects licenses
+    × AreLicensed true None Everything packages subjects × AllZip IsLicense subjects licenses
 
 -- the licences that a bill of packages has, if the arguments have a folder of manifests;
 -- without one it has none

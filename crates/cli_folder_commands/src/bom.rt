@@ -1,14 +1,12 @@
 //! The command `bom`: the bill of materials of a lockfile.
-ghost use Rattle.std.specs.Prelude.{◌≡◌, ◌∷◌, [], IfOk, OnOk, codes, length, map, option_map};
+ghost use Rattle.std.specs.Prelude.{◌≡◌, IfOk, OnOk, codes, map, option_map};
 ghost use Rattle.std.specs.Prelude.{string_bytes};
 ghost use Rattle.std.specs.List.{AllZip};
 ghost use Rattle.clap.specs.Matches.{first_value, found_of};
 ghost use Rattle.cargo_lock_bom.specs.Options.{license_of, property_of};
-ghost use Rattle.cargo_lock_query.specs.Spec.{SpecFits};
 ghost use Rattle.cli_folder_commands.specs.Bom.{IsAskedBill, IsAskedBillOf, IsAskedLine};
 ghost use Rattle.cli_folder_commands.specs.Bom.{IsBillWith, IsPropertyBy, IsRootAsked};
 ghost use Rattle.cli_folder_commands.specs.Bom.{IsTimeAsked, PrintsBill};
-ghost use Rattle.lists.specs.Places.{IsPlaces};
 ghost use Rattle.cli_folder_commands.specs.Texts.{given_texts};
 ghost use Rattle.cli_input.specs.Json.{IsFlag};
 
@@ -18,9 +16,9 @@ use cargo_lock::dependency::graph::NodeIndex;
 use cargo_lock::{Lockfile, Package};
 use cargo_lock_bom::options::{License, Listed, Options, Property, VERSION};
 use cargo_lock_bom::printed::{printed_bill, with_root};
-use cargo_lock_query::fitting;
 use clap::{Arg, ArgAction, ArgMatches, Command};
 use cli_input::load::named_lockfile;
+use cli_input::spec::only_fitting;
 use cli_support::destination::put_own_out;
 use cli_support::words::{any_size, file, long_flag, output};
 use cli_support::{Fault, time};
@@ -248,18 +246,6 @@ fn property(alloc: Global, text: &str) -> Result<Property, Fault>
             Ok(Property { name, value })
         }
         None => Err(refused(alloc, PROPERTY, text)),
-    }
-}
-
-/// The node of the only package that matches a specification.
-fn only_fitting(alloc: Global, packages: &[Package], spec: &str) -> Result<NodeIndex, Fault>
-    ensures { IfOk result (λ node. IsPlaces (SpecFits spec.now packages.now)
-        (length packages.now) (node ∷ [])) }
-{
-    let fitting = fitting(alloc, packages, spec)?;
-    match fitting.as_slice() {
-        [node] => Ok(*node),
-        others => Err(Fault::of_count(alloc, others.len(), spec)),
     }
 }
 

@@ -2,8 +2,8 @@
 
 ghost use Rattle.std.specs.Prelude.{◌≡◌, IfErr, OnOk};
 ghost use Rattle.clap.specs.Matches.{found_of};
-ghost use Rattle.cli_support.specs.declared.fault.Fault.TheVariants.{NoFolder};
-ghost use Rattle.cli_folder_commands.specs.Folders.{IsFolderNamed};
+ghost use Rattle.cli_support.specs.declared.fault.Fault.TheVariants.{NoFolder, NoManifests};
+ghost use Rattle.cli_folder_commands.specs.Folders.{AreManifestsNamed, IsFolderNamed};
 
 use clap::{Arg, ArgAction, ArgMatches};
 use cli_support::Fault;
@@ -34,6 +34,18 @@ pub(crate) fn check_folder(options: &ArgMatches<'_>) -> Result<(), Fault>
 {
     match (options.get_str("cache"), options.get_str("vendor")) {
         (None, None) => Err(Fault::NoFolder),
+        _ => Ok(()),
+    }
+}
+
+/// Refuses arguments that name neither a folder of manifests nor a document of `cargo metadata`.
+pub(crate) fn check_manifests(options: &ArgMatches<'_>) -> Result<(), Fault>
+    ensures ok { OnOk result (AreManifestsNamed (found_of options.now)) }
+    ensures err { IfErr result (λ fault. (fault ≡ NoManifests)
+        × (¬ AreManifestsNamed (found_of options.now))) }
+{
+    match (options.get_str("manifests"), options.get_str("metadata")) {
+        (None, None) => Err(Fault::NoManifests),
         _ => Ok(()),
     }
 }

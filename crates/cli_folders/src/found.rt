@@ -113,7 +113,7 @@ fn copy_of(alloc: Global, manifest: &Manifest) -> Result<Manifest, AllocError>
 }
 
 /// The text once more, if there is one.
-pub(crate) fn copied(alloc: Global, text: &Option<String>) -> Result<Option<String>, AllocError>
+pub fn copied(alloc: Global, text: &Option<String>) -> Result<Option<String>, AllocError>
     ensures { IfOk result
         (λ copy. option_map string_bytes copy ≡ option_map string_bytes text.now) }
 {

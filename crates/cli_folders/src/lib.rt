@@ -19,5 +19,6 @@ mod vendor;
 pub use crate::advisories::{AdvisoryFiles, advisory_files, database_fault};
 pub use crate::entries::Entries;
 pub use crate::first_fault::FirstFault;
+pub use crate::found::copied;
 pub use crate::manifests::Manifests;
 pub use crate::vendor::Vendor;

@@ -5,5 +5,6 @@
 pub mod answer;
 pub mod findings;
 pub mod load;
+pub mod shipping;
 pub mod spec;
 pub mod subject;

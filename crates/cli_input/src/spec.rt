@@ -1,5 +1,5 @@
 //! Specifications of packages, as arguments of `tree`, `bom`, `why` and `graph`.
-ghost use Rattle.std.specs.Prelude.{◌≢◌, [], IfOk, length};
+ghost use Rattle.std.specs.Prelude.{◌≢◌, ◌∷◌, [], IfOk, length};
 ghost use Rattle.lists.specs.Places.{IsPlaces};
 ghost use Rattle.cargo_lock_query.specs.Spec.{SpecFits};
 
@@ -32,4 +32,16 @@ pub fn some_fitting(
         return Err(Fault::of_no_package(alloc, spec));
     }
     Ok(nodes)
+}
+
+/// The node of the only package that a specification fits. Fails if it fits none or several.
+pub fn only_fitting(alloc: Global, packages: &[Package], spec: &str) -> Result<NodeIndex, Fault>
+    ensures { IfOk result (λ node. IsPlaces (SpecFits spec.now packages.now)
+        (length packages.now) (node ∷ [])) }
+{
+    let fitting = fitting(alloc, packages, spec)?;
+    match fitting.as_slice() {
+        [node] => Ok(*node),
+        others => Err(Fault::of_count(alloc, others.len(), spec)),
+    }
 }

@@ -22,6 +22,12 @@ pub record IsInputShown (argument text : List ℕ) : Type 0 where
   pub standard : argument ≡ codes "-" → text ≡ codes "standard input"
   pub other : argument ≢ codes "-" → text ≡ in_line argument
 
+-- the error where the system does not read an input: memory ran out, or another error of the system
+abbrev pub IsUnreadInput : Fault → Type 0
+IsUnreadInput (Library Memory) = Unit {0}
+IsUnreadInput (Library (Io kind)) = kind ≢ OutOfMemory
+IsUnreadInput other = ⊥
+
 -- the error for a lockfile of this argument that is not read: its length, memory, or another error of
 -- the system
 abbrev pub IsOfReading : Fault → List ℕ → Type 0

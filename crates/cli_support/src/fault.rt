@@ -67,6 +67,10 @@ pub enum Fault {
     #[error("error: --cache <FOLDER> or --vendor <FOLDER> is needed\n")]
     NoFolder,
 
+    /// The arguments name neither a folder of manifests nor a document of `cargo metadata`.
+    #[error("error: --manifests <FOLDER> or --metadata <FILE> is needed\n")]
+    NoManifests,
+
     /// Two lockfiles were to be read from standard input.
     #[error("error: standard input cannot be two lockfiles\n")]
     OneInput,
@@ -115,6 +119,10 @@ pub enum Fault {
     /// This folder has files with all of the names that a new one could have.
     #[error("error: the folder `{0}` has all of `.cargo-lock-0.new` to `.cargo-lock-99.new`\n")]
     NamesTaken(String),
+
+    /// The document at this path is not one of the lockfile, for this reason, which follows it.
+    #[error("error: {0} {1}\n")]
+    Document(String, String),
 
     /// A pipe of another user is at this path, and the program does not wait for that user.
     #[error("error: `{0}` is a pipe of another user\n")]

@@ -4,7 +4,7 @@ ghost use Rattle.std.specs.Prelude.{map, option_map, string_bytes};
 ghost use Rattle.std.specs.Path.{path_bytes};
 ghost use Rattle.clap.specs.Matches.{first_value, found_of};
 ghost use Rattle.cli_support.specs.Destination.{IsPrinted};
-ghost use Rattle.cli_support.specs.Input.{IsInputPath, IsInputShown, IsOfReading};
+ghost use Rattle.cli_support.specs.Input.{IsInputPath, IsInputShown, IsOfReading, IsUnreadInput};
 ghost use Rattle.cli_support.specs.Input.{given_path_in};
 ghost use Rattle.cli_support.specs.Status as spec;
 ghost use Rattle.std.specs.declared.io.ErrorKind.TheVariants.{InvalidData};
@@ -101,20 +101,48 @@ pub fn text_at<R: Files + Input + AllocGlobal>(
     } else {
         LIMIT
     };
-    let read = match path_at(argument) {
-        Some(path) => file_bytes(rt, path, limit),
-        None => input_bytes(rt, limit),
-    };
-    match read {
+    match bytes_at(rt, argument, limit) {
         Ok(bytes) if (bytes.len() as u64) < limit => of_bytes(bytes),
         Ok(_) => Err(too_large(rt.alloc(), argument)),
         Err(error) => Err(not_read(argument, error)),
     }
 }
 
-/// The error where the system does not read the lockfile of this argument.
+/// The text at this path, or of standard input if that is `-`, unless it has more than `limit` bytes.
+/// Fails if it is not read.
+pub fn text_within<R: Files + Input + AllocGlobal>(
+    rt: &R,
+    argument: &str,
+    limit: u64,
+) -> Result<Option<String>, Fault>
+    ensures { IfErr result IsUnreadInput }
+{
+    match bytes_at(rt, argument, limit.saturating_add(1)) {
+        Ok(bytes) if (bytes.len() as u64) <= limit => match of_bytes(bytes) {
+            Ok(text) => Ok(Some(text)),
+            Err(fault) => Err(fault),
+        },
+        Ok(_) => Ok(None),
+        Err(error) => Err(not_read(argument, error)),
+    }
+}
+
+/// The first bytes at this path, or of standard input if that is `-`, at most `limit` of them.
+fn bytes_at<R: Files + Input + AllocGlobal>(
+    rt: &R,
+    argument: &str,
+    limit: u64,
+) -> io::Result<Vec<u8>> {
+    match path_at(argument) {
+        Some(path) => file_bytes(rt, path, limit),
+        None => input_bytes(rt, limit),
+    }
+}
+
+/// The error where the system does not read the lockfile or the document of this argument.
 fn not_read(argument: &str, error: io::Error) -> Fault
-    ensures { IsOfReading result argument.now }
+    ensures of_lockfile { IsOfReading result argument.now }
+    ensures of_input { IsUnreadInput result }
 {
     Fault::of_system_call(error)
 }

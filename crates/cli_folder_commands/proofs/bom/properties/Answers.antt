@@ -1,6 +1,6 @@
 use Rattle.cargo_lock_bom.specs.Options.{property_of}
 use Rattle.cli_folder_commands.specs.Bom.{IsPropertyBy}
-use Rattle.cli_folder_commands.proofs.Expressions.{next-text}
+use Rattle.cli_input.proofs.Zipping.{next-text}
 use Rattle.cli_folder_commands.proofs.bom.properties.Goals as goal
 
 pub loop-text-preserved : goal.loop-text-preserved

@@ -1,6 +1,6 @@
 use Rattle.cargo_lock_licenses.specs.Policy.{exemption_of}
 use Rattle.cli_folder_commands.specs.Policy.{IsExemptionBy}
-use Rattle.cli_folder_commands.proofs.Expressions.{next-text}
+use Rattle.cli_input.proofs.Zipping.{next-text}
 use Rattle.cli_folder_commands.proofs.policy.all_exemptions.Goals as goal
 
 pub loop-text-preserved : goal.loop-text-preserved

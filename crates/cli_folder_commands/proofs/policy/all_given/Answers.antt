@@ -1,6 +1,6 @@
 use Rattle.cargo_lock_licenses.specs.Policy.{given_of}
 use Rattle.cli_folder_commands.specs.Policy.{IsGivenBy}
-use Rattle.cli_folder_commands.proofs.Expressions.{next-text}
+use Rattle.cli_input.proofs.Zipping.{next-text}
 use Rattle.cli_folder_commands.proofs.policy.all_given.Goals as goal
 
 pub loop-text-preserved : goal.loop-text-preserved

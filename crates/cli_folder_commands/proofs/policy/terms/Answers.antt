@@ -1,6 +1,6 @@
 use Rattle.std.proofs.Common.{string_bytes}
 use Rattle.cli_folder_commands.specs.Policy.{IsTermBy}
-use Rattle.cli_folder_commands.proofs.Expressions.{next-text}
+use Rattle.cli_input.proofs.Zipping.{next-text}
 use Rattle.cli_folder_commands.proofs.policy.terms.Goals as goal
 
 pub loop-text-preserved : goal.loop-text-preserved

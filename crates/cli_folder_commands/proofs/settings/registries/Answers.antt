@@ -3,7 +3,7 @@ use Rattle.std.specs.List.{AllZip}
 use Rattle.std.proofs.lemmas.List.{map-id}
 use Rattle.cargo_lock_parts.specs.Source.{Source}
 use Rattle.cli_folder_commands.specs.Settings.{NamesRegistry}
-use Rattle.cli_folder_commands.proofs.Expressions.{next-text}
+use Rattle.cli_input.proofs.Zipping.{next-text}
 use Rattle.cli_folder_commands.proofs.settings.registries.Goals as goal
 
 pub loop-text-preserved : goal.loop-text-preserved
