@@ -36,6 +36,7 @@ BESIDE = [
     of("fuzz", "tests/fuzz/run 20000", ["operations"], "texts that are made from lockfiles"),
     of("callers", "tests/callers/run", ["operations"], "callers in C, Rust and Python"),
     of("inflate-test", "tests/inflate/run", [], "streams and members of gzip, against zlib"),
+    of("tar-test", "tests/tar/run", [], "archives of tar, against tarfile, tar and Cargo"),
     of("edits-runner", "tests/edits/failing/run", [], "the runner of edits finds planted faults"),
     of("contracts-test", "tests/contracts/run", [], "planted changes show in docs/CONTRACTS"),
     of("gate-test", "tests/gate/run", [], "stages, schedules and counts of the gate itself"),
