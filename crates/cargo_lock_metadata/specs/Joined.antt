@@ -3,7 +3,7 @@ use Rattle.std.specs.Prelude.{◌≡◌, ◌++◌, ℕ, List, [], Option, None, 
 use Rattle.std.specs.Prelude.{slice_get}
 use Rattle.std.specs.List.{AllZip, Contains}
 use Rattle.cargo_lock_parts.specs.Optional.{◌>>=◌}
-use Rattle.cargo_lock_metadata.specs.Belonging.{Belong, BelongsTo, HasIdentityAt, IsForeignFault}
+use Rattle.cargo_lock_metadata.specs.Belonging.{Belong, BelongsTo, HasTextsAt, IsForeignFault}
 use Rattle.cargo_lock_metadata.specs.Belonging.{IsNamed}
 use Rattle.cargo_lock_metadata.specs.Counts.{kind_counts_of}
 use Rattle.cargo_lock_metadata.specs.Document.{DocumentData, DocumentPackageData}
@@ -81,7 +81,7 @@ joined_line_text j = kinds_text j.links.names (kind_counts_of j.links.kinds)
 -- they are the name and the version of the package of a lockfile at the place
 abbrev pub IsIdentityNameAt : List IdentityTexts → ℕ → NameAndVersion → Type 0
 IsIdentityNameAt lockfile place n = (identity : IdentityTexts)
-    × HasIdentityAt lockfile place identity × IsNamed n identity
+    × HasTextsAt lockfile place identity × IsNamed n identity
 
 -- it names a package of a lockfile that is named as a root, and to which nothing belongs
 pub record IsAbsentRoot (d : DocumentData) (lockfile : List IdentityTexts) (named : List ℕ)
