@@ -46,7 +46,7 @@ no-format (Some x) e some = absurd cc
 
 pub merges-are-not-favoured : MergesAreNotFavoured
 merges-are-not-favoured side comments s l rs f merged h = elim h.conflicts.some [
-  | inl some ↦ no-conflict (packages_of s) merged.packages.0 rs f.conflicts.packages.items merged.packages.1.0 h.conflicts.packages some
+  | inl some ↦ no-conflict (packages_of s) merged.packages.0 rs f.conflicts.packages.items merged.packages.1 h.conflicts.packages some
   | inr other ↦ elim other [
     | inl keyed ↦ no-key s l rs f.conflicts.metadata keyed.0 merged h.conflicts.metadata keyed.1
     | inr some ↦ no-format f.conflicts.format h.format some

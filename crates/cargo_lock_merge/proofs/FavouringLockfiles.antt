@@ -130,7 +130,7 @@ module _ (all : Lockfiles) (places : List Place) (s : Triple ℕ) (are : AreSide
 
 -- the packages of a merge in which the side is favoured, and the conflicts
 pub favoured-found : (side : Side) (all : Lockfiles) (found : Found) → FindsFavoured side all (Favoured found.packages found.remarks found.conflicts) → ArePackagesFavouring side all found
-favoured-found side all found (s, (places, are), without, (new, is, ready, (m, merge, ((xs, perm, zip), order, moved, notices, apart)))) = inr (
+favoured-found side all found (s, (places, are), (without, (new, is, ready, (m, merge, ((xs, perm, zip), order, moved, notices, apart))))) = inr (
   record {
     places = places;
     triple = s;
@@ -153,7 +153,7 @@ favoured-found side all found (s, (places, are), without, (new, is, ready, (m, m
 
 -- there is some conflict of packages
 pub some-conflict : (side : Side) (all : Lockfiles) (found : Found) → FindsFavoured side all (Favoured found.packages found.remarks found.conflicts) → found.conflicts.items ≢ []
-some-conflict side all found (s, are, without, rest) = without.some
+some-conflict side all found (s, are, (without, rest)) = without.some
 
 -- the merge where there are no conflicts
 pub merged-found : (side : Side) (all : Lockfiles) (packages : _) (remarks : Remarks) → FindsFavoured side all (Merged packages remarks) → IsMergeFound all packages.items remarks
@@ -161,7 +161,7 @@ merged-found side all packages remarks (s, are, h) = finds all s (outcome.Merged
 
 -- the conflicts where there is no merge
 pub conflicts-found : (side : Side) (all : Lockfiles) (conflicts : _) → FindsFavoured side all (Conflicts conflicts) → AreInConflictAbout all conflicts.items × HasNoFavouredMerge side all
-conflicts-found side all conflicts (s, (places, are), without, none) = (
+conflicts-found side all conflicts (s, (places, are), (without, none)) = (
   record { places = places; triple = s; sides = are; none = without.none; conflicts = without.about; some = without.some },
   record { places = places; triple = s; sides = are; none = none },
 )

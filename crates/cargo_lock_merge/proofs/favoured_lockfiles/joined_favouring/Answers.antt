@@ -22,8 +22,8 @@ returns-in-Favoured-clause-ok c =
     h s roots (favoured-found c.args.side (packages_of s) made finds) rest (inl (some-conflict c.args.side (packages_of s) made finds)))
     c.joined_found.ensures.ok
 
-pub returns-clause-ok : goal.returns-clause-ok
-returns-clause-ok c = λ s roots found rest.
+pub returns-in-Conflicts-clause-ok : goal.returns-in-Conflicts-clause-ok
+returns-in-Conflicts-clause-ok c = λ s roots found rest.
     let (about, none) = conflicts-found c.args.side (packages_of s) c.in-Conflicts.packages (subst (λ (o : FavouredOutcome). FindsFavoured c.args.side (packages_of s) o) c.in-Conflicts.is found) in (
       record {
         roots = roots;

@@ -9,8 +9,8 @@ use Rattle.cargo_lock_merge.proofs.LockfileMerging.{merged-lockfile, some-key}
 use Rattle.cargo_lock_parts.specs.Identity.{PackageData}
 use Rattle.cargo_lock_merge.proofs.favoured_lockfiles.joined_merged.Goals as goal
 
-pub returns-in_ok-merge-clause-ok : goal.returns-in_ok-merge-clause-ok
-returns-in_ok-merge-clause-ok c = λ s roots found rest.
+pub returns-then-is_empty-clause-ok : goal.returns-then-is_empty-clause-ok
+returns-then-is_empty-clause-ok c = λ s roots found rest.
     let refers = subst (λ (ps : List PackageData). AllZip IsReferring ps c.in_ok-packages.packages.items) c.deref.ensures.value c.in_ok-packages.ensures.ok in
     let merged = subst (λ (l : LockfileData). IsMergedLockfile s l c.args.remarks) (sym c.lockfile_of.ensures)
     (merged-lockfile s c.args.rest c.args.packages.items c.in_ok-packages.packages.items c.args.remarks roots found refers (c.is_empty.ensures.0 c.if-is_empty.true) rest) in
