@@ -317,14 +317,27 @@ fn put_value(
     ensures err { IsOkUnless result Memory }
 {
     match value {
-        Some(value) => {
-            metadata.insert(key.clone()?, value.clone()?)?;
-        }
-        None => {
-            metadata.remove(key);
-        }
+        Some(value) => insert_value(metadata, key, value),
+        None => Ok(remove_value(metadata, key)),
     }
+}
+
+// Puts the value at this key.
+fn insert_value(metadata: &mut Metadata, key: &MetadataKey, value: &MetadataValue) -> Result<()>
+    ensures put { OnOk result (value_at_key metadata.new key.now ≡ Some value.now) }
+    ensures others { OnOk result (IsSameButAt key.now metadata.old metadata.new) }
+    ensures err { IsOkUnless result Memory }
+{
+    metadata.insert(key.clone()?, value.clone()?)?;
     Ok(())
+}
+
+// Removes what is at this key.
+fn remove_value(metadata: &mut Metadata, key: &MetadataKey)
+    ensures put { value_at_key metadata.new key.now ≡ None }
+    ensures others { IsSameButAt key.now metadata.old metadata.new }
+{
+    metadata.remove(key);
 }
 
 impl MetadataConflict {

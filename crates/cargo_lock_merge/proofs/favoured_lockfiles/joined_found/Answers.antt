@@ -12,7 +12,7 @@ returns-clause-ok c =
     let refers = subst (λ (ps : List PackageData). AllZip IsReferring ps c.in_ok-packages.packages.items) c.deref.ensures.value c.in_ok-packages.ensures.ok in
     IfOk-weaker c.with_conflicts.result _ _ (λ merge h s roots are rest some.
     h c.args.side s
-    (rw c.parts_of.ensures.lockfile (favoured-lockfile c.args.side s found c.args.rest c.in_ok-rest.rest c.in_ok-packages.packages.items roots are refers rest c.in_ok-rest.ensures.ok))
-    (rw (c.parts_of.ensures.conflicts, c.in_ok-rest.ensures.ok.conflicts) (told-conflicts c.args.side c.args.comments.now s found c.args.rest roots are rest some))
-    (rw c.parts_of.ensures.conflicts refl))
+    (rw c.parts_of-lockfile.ensures.lockfile (favoured-lockfile c.args.side s found c.args.rest c.in_ok-rest.rest c.in_ok-packages.packages.items roots are refers rest c.in_ok-rest.ensures.ok))
+    (rw (c.parts_of-lockfile.ensures.conflicts, c.in_ok-rest.ensures.ok.conflicts) (told-conflicts c.args.side c.args.comments.now s found c.args.rest roots are rest some))
+    (rw c.parts_of-lockfile.ensures.conflicts refl))
     c.with_conflicts.ensures.ok
